@@ -1,0 +1,14 @@
+pub mod Choice
+pub mod Kinds
+pub mod Records
+pub mod CellMap
+pub mod Rows
+pub mod State
+pub mod Answers
+pub mod Fresh
+pub mod KeeperSteps
+pub mod ClientSteps
+pub mod Refusals
+pub mod Steps
+pub mod Rules
+pub mod Calls
