@@ -24,7 +24,6 @@ pub record Line : Type 0 where
 
 infix 70 _gives_with_
 infix 70 _leaves_
-
 abbrev _gives_with_ : Step → ℕ → ℕ → Line
 t gives n with x = record { done = t; answer = n; value = x }
 

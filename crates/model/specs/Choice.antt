@@ -1,4 +1,5 @@
 -- How the definitions choose and test. `eqb`, `ltb` and `leb` of the language's library test =, < and ≤ on numbers.
+pub mod Laws
 use mathlib.Core.Bool.{Bool, true, false}
 use mathlib.Core.List.{List, [], _∷_}
 use Prim.Native.Nat.{ℕ, zero, suc, _+_}
@@ -6,7 +7,6 @@ use Prim.Native.Nat.{ℕ, zero, suc, _+_}
 infixr 35 _and_
 infixr 30 _or_
 infixr 25 _⇒_
-
 -- the first where the test holds, else the second
 abbrev pub pick : {A : Type 0} → Bool → A → A → A
 pick true x y = x

@@ -4,13 +4,9 @@ use mathlib.Core.List.{List, [], _∷_}
 use Prim.Native.Nat.{ℕ, zero, suc, _-_, _*_, _^_, _<_}
 use native.Mathlib.Omega.{arith}
 use lib.ListN.{getD}
+use Rattle.model.specs.declared.Lengths.{Lengths}
 
--- | kind | cells | words | payload words |
-pub record Lengths : Type 0 where
-  pub cells : ℕ
-  pub words : ℕ
-  pub payload : ℕ
-
+-- | cells | words | payload words |
 abbrev pub lengths : ℕ → ℕ → ℕ → Lengths
 lengths c w p = record { cells = c; words = w; payload = p }
 

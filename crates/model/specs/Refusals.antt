@@ -13,7 +13,6 @@ use Rattle.model.specs.Rows.{hold, busy}
 use Rattle.model.specs.State.{stageOf, inHand, entry}
 
 infix 70 _if_
-
 -- a line of the table: the number, and whether it applies
 abbrev pub Refusal : Type 0
 Refusal = ℕ × Bool

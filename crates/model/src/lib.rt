@@ -1,6 +1,13 @@
 // The types of the archive; what they mean is defined in specs/, in the words and order of document 01.
 // Holds no code: every step is written in the crates above and proved equal to the definitions here.
 
+// "Four record kinds, by a fixed table": a line of it.
+pub struct Lengths {
+    pub cells: u32,
+    pub words: u32,
+    pub payload: u32,
+}
+
 // "The last two carry the access (read or write, hold, word, value), value 0 for a read."
 pub enum Access {
     Read { hold: u32, word: u32 },
