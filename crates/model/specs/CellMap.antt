@@ -1,6 +1,4 @@
 -- 01, "Arena, records, parties": "a map with one bit per cell, set when used", as sixteen words of 64 bits.
-pub mod Bits
-pub mod Laws
 use mathlib.Core.Path.{_≡_}
 use mathlib.Core.Bool.{Bool, true, false}
 use mathlib.Core.List.{List}

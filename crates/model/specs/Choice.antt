@@ -1,5 +1,4 @@
 -- How the definitions choose and test. `eqb`, `ltb` and `leb` of the language's library test =, < and ≤ on numbers.
-pub mod Laws
 use mathlib.Core.Bool.{Bool, true, false}
 use mathlib.Core.List.{List, [], _∷_}
 use Prim.Native.Nat.{ℕ, zero, suc, _+_}

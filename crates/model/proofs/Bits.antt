@@ -9,7 +9,7 @@ use lib.Arith.{digits-lt}
 use lib.Pow.{pow-pos, pow-mono, split, shr-shr, mod-mod-pow, field, low, high, shr-lt, pow-add, pow-lt, not-mod}
 use lib.Count.{trailingZeros, under}
 use lib.Bits.{bitAnd, bitOr, and-shr, or-shr, and-step, or-step, and-lt, or-lt}
-use Rattle.model.specs.Choice.Laws.{order, sides, same-or-not}
+use Rattle.model.proofs.Choice.{order, sides, same-or-not}
 use Rattle.model.specs.CellMap.{bit, withBit}
 
 pub bit-lt : (w k : ℕ) → bit w k < 2

@@ -13,9 +13,9 @@ use borrow.Author.Tests.{eq-eqb, eqb-true, eqb-false, le-leb, leb-true, leb-fals
 use lib.ListN.{length, getD, set, replicate, length-set}
 use lib.Seq.{getD-set-same, getD-set-other, set-out, ext-getD}
 use Rattle.model.specs.Choice.{_and_}
-use Rattle.model.specs.Choice.Laws.{order, same-or-not, clash, and-parts, and-true}
+use Rattle.model.proofs.Choice.{order, same-or-not, clash, and-parts, and-true}
 use Rattle.model.specs.Records.{none}
-use Rattle.model.specs.CellMap.Bits.{bit-lt, with-same, with-other, with-lt, bits-ext}
+use Rattle.model.proofs.Bits.{bit-lt, with-same, with-other, with-lt, bits-ext}
 use Rattle.model.specs.CellMap.{bit, withBit, used, put, putRun, freeCells, runAt, lowestFrom, lowestRun}
 
 -- sixteen words of 64 bits: what every value of type [u64; 16] is

@@ -1,0 +1,18 @@
+-- Facts about a record's length, proved once over its kind. Assumes nothing.
+use mathlib.Core.Path.{_≡_, refl}
+use Prim.Native.Nat.{ℕ, zero, suc, _-_, _*_, _^_, _<_}
+use native.Mathlib.Omega.{arith}
+use Rattle.model.specs.Kinds.{kindTable, ofKind, cells, words, payload}
+
+pub record Regular (k : ℕ) : Type 0 where
+  pub words-are-cells : words k ≡ 8 * cells k
+  pub payload-is-words : payload k ≡ words k - 2
+  pub cells-double : k < 4 → cells k ≡ 2 ^ k
+
+pub by-kind : (k : ℕ) → Regular k
+unfolding ofKind kindTable
+by-kind zero = record { words-are-cells = refl; payload-is-words = refl; cells-double = λ _. refl }
+by-kind (suc zero) = record { words-are-cells = refl; payload-is-words = refl; cells-double = λ _. refl }
+by-kind (suc (suc zero)) = record { words-are-cells = refl; payload-is-words = refl; cells-double = λ _. refl }
+by-kind (suc (suc (suc zero))) = record { words-are-cells = refl; payload-is-words = refl; cells-double = λ _. refl }
+by-kind (suc (suc (suc (suc k)))) = record { words-are-cells = refl; payload-is-words = refl; cells-double = λ h. absurd (omega arith) }

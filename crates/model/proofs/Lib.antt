@@ -1,0 +1,4 @@
+pub mod Choice
+pub mod ByKind
+pub mod Bits
+pub mod CellMap
