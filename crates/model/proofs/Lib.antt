@@ -3,3 +3,4 @@ pub mod ByKind
 pub mod Bits
 pub mod CellMap
 pub mod Refusals
+pub mod Answered

@@ -1,6 +1,6 @@
 -- Laws of refusing: the line that is given is the lowest that applies, and what is shown of each line and of the accepted outcome
 -- holds of whatever is given. Assumes nothing.
-use mathlib.Core.Path.{_≡_, refl, ap, _∙_}
+use mathlib.Core.Path.{_≡_, refl, sym, subst}
 use mathlib.Core.Bool.{Bool, true, false}
 use mathlib.Core.List.{List, [], _∷_}
 use Prim.Native.Nat.{ℕ, _≤_, _<_}
@@ -37,3 +37,44 @@ each Q f (g ∷ l) h t = both (f (g .0)) refl t (each Q f l h)
     both : (b : Bool) → f (g .0) ≡ b → T (b and numbers f l) → (T (numbers f l) → Each Q l) → Q (g .0) × Each Q l
     both true e u r = (h (g .0) e, r u)
     both false e u r = absurd u
+
+-- "The lowest number that applies is given": the lines rise, so the first that applies is the lowest
+abbrev pub atLeast : ℕ → List Refusal → Bool
+atLeast n [] = true
+atLeast n (g ∷ l) = leb n (g .0) and atLeast n l
+
+abbrev pub rising : List Refusal → Bool
+rising [] = true
+rising (g ∷ l) = atLeast (g .0) l and rising l
+
+-- line n applies
+abbrev pub applies : ℕ → List Refusal → Bool
+applies n [] = false
+applies n (g ∷ l) = (eqb (g .0) n and g .1) or applies n l
+
+-- the number that is given, or 0
+abbrev pub given : List Refusal → ℕ
+given l = refuse l (λ n. n) 0
+
+floor : (l : List Refusal) (n m : ℕ) → T (atLeast n l) → applies m l ≡ true → n ≤ m
+floor [] n m t e = clash false e refl
+floor (g ∷ l) n m t e = by (leb n (g .0)) refl t (eqb (g .0) m) refl (g .1) e (λ u. floor l n m u)
+  where
+    by : (p : Bool) → leb n (g .0) ≡ p → T (p and atLeast n l) → (q : Bool) → eqb (g .0) m ≡ q → (x : Bool) → ((q and x) or applies m l) ≡ true
+        → (T (atLeast n l) → applies m l ≡ true → n ≤ m) → n ≤ m
+    by true p u true q true f r = omega (arith, leb-true n (g .0) p, eqb-true (g .0) m q)
+    by true p u true q false f r = r u f
+    by true p u false q x f r = r u f
+    by false p u q d x f r = absurd u
+
+pub lowest-is-given : (l : List Refusal) → T (rising l) → (n : ℕ) → applies n l ≡ true → given l ≤ n
+lowest-is-given [] t n e = clash false e refl
+lowest-is-given (g ∷ l) t n e = by (atLeast (g .0) l) refl t (g .1) (eqb (g .0) n) refl e (λ u. lowest-is-given l u n)
+  where
+    by : (p : Bool) → atLeast (g .0) l ≡ p → T (p and rising l) → (x q : Bool) → eqb (g .0) n ≡ q → ((q and x) or applies n l) ≡ true
+        → (T (rising l) → applies n l ≡ true → given l ≤ n) → pick x (g .0) (given l) ≤ n
+    by true p u true true q f r = omega (arith, eqb-true (g .0) n q)
+    by true p u true false q f r = floor l (g .0) n (subst T (sym p) tt) f
+    by true p u false true q f r = r u f
+    by true p u false false q f r = r u f
+    by false p u x q d f r = absurd u
