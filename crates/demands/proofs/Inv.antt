@@ -56,10 +56,10 @@ pub record WaitingOK (v : Move) (kind : ℕ → ℕ) (h begun : ℕ) (r : Row) (
   pub owes : r .swaps < begun
   pub elsewhere : Flag v h → c ≢ v .from → suc (r .swaps) < begun
 
-abbrev pub PhaseOK : Type 0 → List ℕ → Move → (ℕ → ℕ) → ℕ → ℕ → Row → Client → Phase → Type 0
-PhaseOK X dir v kind h begun r q Resting = q .pending ≡ noAccess
-PhaseOK X dir v kind h begun r q (Ready c x) = ReadyOK X dir v kind h r q c x
-PhaseOK X dir v kind h begun r q (Waiting c x) = WaitingOK v kind h begun r q c x
+pub data PhaseOK (X : Type 0) (dir : List ℕ) (v : Move) (kind : ℕ → ℕ) (h begun : ℕ) (r : Row) (q : Client) : Phase → Type 0 where
+  rests : q .pending ≡ noAccess → PhaseOK X dir v kind h begun r q Resting
+  ready : {c : ℕ} {x : Access} → ReadyOK X dir v kind h r q c x → PhaseOK X dir v kind h begun r q (Ready c x)
+  waits : {c : ℕ} {x : Access} → WaitingOK v kind h begun r q c x → PhaseOK X dir v kind h begun r q (Waiting c x)
 
 -- R6: "Unattached rows are as after DETACH."
 pub record Detached (r : Row) : Type 0 where
