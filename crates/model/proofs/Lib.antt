@@ -4,3 +4,5 @@ pub mod Bits
 pub mod CellMap
 pub mod Refusals
 pub mod Answered
+pub mod Records
+pub mod Counts
