@@ -4,3 +4,7 @@ pub mod Owners
 pub mod Words
 pub mod Inv
 pub mod Blocks
+pub mod Entries
+pub mod RowLaws
+pub mod Clients
+pub mod Swaps
