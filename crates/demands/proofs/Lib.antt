@@ -8,3 +8,4 @@ pub mod Entries
 pub mod RowLaws
 pub mod Clients
 pub mod Swaps
+pub mod Finishes
