@@ -43,11 +43,11 @@ module _ {X : Type 0} {dir : List ℕ} {v : Move} {kind : ℕ → ℕ} {h begun 
   -- the phase's part at another directory, move, kinds, header and count, and for a row and client that differ
   pub carry-phase : {dir′ : List ℕ} {v′ : Move} {kind′ : ℕ → ℕ} {h′ begun′ : ℕ} {r′ : Row} {q′ : Client} {p : Phase}
       → (q .pending ≡ noAccess → q′ .pending ≡ noAccess)
-      → ((c : ℕ) (x : Access) → ReadyOK X dir v kind h r q c x → ReadyOK X dir′ v′ kind′ h′ r′ q′ c x)
+      → ((c : ℕ) (x : Access) → p ≡ Ready c x → ReadyOK X dir v kind h r q c x → ReadyOK X dir′ v′ kind′ h′ r′ q′ c x)
       → ((c : ℕ) (x : Access) → WaitingOK v kind h begun r q c x → WaitingOK v′ kind′ h′ begun′ r′ q′ c x)
       → PhaseOK X dir v kind h begun r q p → PhaseOK X dir′ v′ kind′ h′ begun′ r′ q′ p
   carry-phase a b c (rests e) = rests (a e)
-  carry-phase a b c (ready {c = d} {x = x} W) = ready (b d x W)
+  carry-phase a b c (ready {c = d} {x = x} W) = ready (b d x refl W)
   carry-phase a b c (waits {c = d} {x = x} W) = waits (c d x W)
 
 -- the row where the old header is another number, which is flagged only where the old number was
@@ -56,7 +56,7 @@ pub reflag-row : {X : Type 0} {dir : List ℕ} {v : Move} {kind : ℕ → ℕ} {
 reflag-row f R = record {
     four = R .four; holds = R .holds; detached = R .detached; passed = R .passed; le = R .le; lt = λ k. R .lt (f k);
     phase = carry-phase (λ e. e)
-      (λ c x W. record { asked = W .asked; place = W .place; newest = W .newest; away = λ y k. W .away y (f k) })
+      (λ c x _ W. record { asked = W .asked; place = W .place; newest = W .newest; away = λ y k. W .away y (f k) })
       (λ c x W. record { asked = W .asked; held = W .held; owes = W .owes; elsewhere = λ k. W .elsewhere (f k) })
       (R .phase) }
 

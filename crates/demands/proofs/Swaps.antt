@@ -65,9 +65,7 @@ module _ {X : Type 0} (s : State) (g : Account) (t : Step) (I : Inv X s g) (seat
       record {
         four = R .four; holds = R .holds; detached = λ z. clash (ownRow s t .attached) att z; passed = R .passed;
         le = omega (arith, W .owes); lt = λ k. let b = f k in omega (arith, W .elsewhere (b .0) (b .2));
-        phase = ready (record {
-          asked = record { pending = W .asked .pending; fits = W .asked .fits; filled = W .asked .filled };
-          place = at-entry e; newest = λ _. e; away = λ _ k _. f k .1 }) }
+        phase = ready (record { asked = W .asked; place = at-entry e; newest = λ _. e; away = λ _ k _. f k .1 }) }
 
   abbrev Next : Stepped → Type 0
   Next o = Inv X (seated s t o .next) (told GO g t (o .answer))
