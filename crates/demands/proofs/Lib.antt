@@ -9,3 +9,4 @@ pub mod RowLaws
 pub mod Clients
 pub mod Swaps
 pub mod Finishes
+pub mod Begins
