@@ -16,7 +16,7 @@ use Rattle.demands.proofs.Lists.{getD-in}
 use Rattle.demands.proofs.Owners.{other, Owns}
 use Rattle.demands.proofs.Inv.{Flag, HoldOK, empty, here, was, HeadOK, own-head, flag-head, EntryOK, Sides, early, late, SidesOK, Count, Core}
 
-copied-le : (g : Stage) (z n : ℕ) → T (rules.early g) → Count g z n → n ≤ z
+pub copied-le : (g : Stage) (z n : ℕ) → T (rules.early g) → Count g z n → n ≤ z
 copied-le idle z n l k = absurd l
 copied-le firstBarrier z n l k = omega arith
 copied-le copying z n l k = omega arith

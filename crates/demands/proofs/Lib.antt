@@ -10,3 +10,4 @@ pub mod Clients
 pub mod Swaps
 pub mod Finishes
 pub mod Begins
+pub mod Copying

@@ -29,7 +29,7 @@ use Rattle.demands.proofs.Inv.{Flag, HoldOK, empty, Asked, ReadyOK, Wai
 abbrev pub RowIn : Type 0 → State → Account → Row → Client → Type 0
 RowIn X s g r q = RowOK X (s .control .dir) (s .control .mv) (g .kind) (header (s .arena) (s .control .mv .from)) (s .control .begun) r q
 
-one-early : (b : Bool) → T b → one b ≡ 1
+pub one-early : (b : Bool) → T b → one b ≡ 1
 one-early true t = refl
 one-early false t = absurd t
 
