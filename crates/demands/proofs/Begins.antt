@@ -60,7 +60,7 @@ module _ {X : Type 0} {dir map : List ℕ} {v : Move} {arena : List ℕ} {val : 
       is-map = run-map map d (cells (kind a)) 1 (C .is-map) (omega arith);
       entries = λ m n. stored-entry C a (entry dir a) refl (entry-range C a present) (flagged (entry dir a)) m n
         (owns-keep own d (cells (kind a)) other m (entry dir m) (cells (kind m)) (λ x p q i. omega (arith, run-unowned own map (cells (kind a)) d (C .mapped) run x p q, meter-lt C m n)) (C .entries m n .owns))
-        (flag-head tt refl refl) (λ _ k. keep-head k);
+        (λ _. flag-head tt refl refl) (λ _ k. keep-head k);
       mapped = mapped-run own map d (cells (kind a)) other 1 (C .is-map) (run .within) (omega arith) refl (C .mapped);
       owned = λ x. repaint-cases (λ (i : ℕ). i ≢ none → Block dir (firstMove a (entry dir a) d) kind x i) own d (cells (kind a)) other x
         (λ p q _. in-other (early tt) refl p q) (λ _ i. keep-block (C .owned x i));

@@ -141,7 +141,7 @@ module _ {X : Type 0} (s : State) (g : Account) (I : Inv X s g) where
   abbrev v : Move
   v = s .control .mv
 
-  count-at : (n : Stage) → stageOf (s .control .mv .stage) ≡ n → Count n (words (g .kind (s .control .mv .meter))) (s .control .mv .copied)
+  pub count-at : (n : Stage) → stageOf (s .control .mv .stage) ≡ n → Count n (words (g .kind (s .control .mv .meter))) (s .control .mv .copied)
   count-at n e = subst (λ (x : Stage). Count x (words (g .kind (s .control .mv .meter))) (s .control .mv .copied)) e (I .core .count)
 
   r7-on : Early (s .control .mv) → (k : ℕ) → T (rules.early (stageOf k)) → s .control .begun ≡ s .control .committed + s .control .aborted + one (rules.early (stageOf k))

@@ -11,3 +11,4 @@ pub mod Swaps
 pub mod Finishes
 pub mod Begins
 pub mod Copying
+pub mod Commits

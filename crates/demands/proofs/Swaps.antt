@@ -45,7 +45,7 @@ module _ {X : Type 0} {dir map : List ℕ} {v : Move} {arena : List ℕ} {val : 
       (λ e. absurd (omega (arith, home-lt C (early l)))) in
       record {
         entries256 = C .entries256; words8192 = length-set arena (place (v .from) 0) (plain (v .from)) ∙ C .words8192; is-map = C .is-map;
-        entries = λ m n. stored-entry C (v .meter) (v .from) (S .home) (S .inside) (plain (v .from)) m n (C .entries m n .owns) (own-head refl) (λ _ k. k);
+        entries = λ m n. stored-entry C (v .meter) (v .from) (S .home) (S .inside) (plain (v .from)) m n (C .entries m n .owns) (λ _. own-head refl) (λ _ k. k);
         mapped = C .mapped; owned = C .owned; idle = C .idle; sides = C .sides; count = C .count;
         old-head = λ y. absurd (not-both v l y); old-label = λ y. absurd (not-both v l y);
         replica-head = λ y p. same 0 (omega arith) ∙ C .replica-head y p; replica-label = λ y p. same 1 (omega arith) ∙ C .replica-label y p;
