@@ -158,9 +158,9 @@ module _ {X : Type 0} (s : State) (g : Account) (I : Inv X s g) where
           (λ q. absurd (omega arith)) (λ q. absurd (omega arith)) (λ _ _ j a b. absurd (omega arith));
         rows = λ i. goes-on-row 2 (s .control .mv .copied) _ l tt refl (λ y. I .rows i .detached y .passed) (λ _. passed-get (s .table) p i) (I .rows i) }
 
-  pub copy-inv : stageOf (s .control .mv .stage) ≡ copying → Inv X (copyWord s .next) g
+  pub copy-inv : (t : Step) → stageOf (s .control .mv .stage) ≡ copying → Good X ADVANCE g t (copyWord s)
   unfolding copyWord
-  copy-inv e =
+  copy-inv t e =
       let l : Early v = rw e tt in
       let z = home-real (I .core) (early l) in
       let more : v .copied < 8 * cells (g .kind (v .meter)) = omega (arith, count-at copying e) in
@@ -170,7 +170,7 @@ module _ {X : Type 0} (s : State) (g : Account) (I : Inv X s g) where
       λ k on count. copied-core (I .core) l more k (rise (v .copied)) on up count in
       let same = sym (from-word (I .core) l more 0 (omega arith)) in
       let beyond : First v → ⊥ = λ y. rw e at y in
-      by-test (λ (o : Outcome). Inv X (o .next) g) (eqb (rise (v .copied)) (wordsAt (s .arena) (v .from)))
+      by-test (Good X ADVANCE g t) (eqb (rise (v .copied)) (wordsAt (s .arena) (v .from)))
       (λ y. record {
         own = I .own; eight = length-map (s .table) cleared ∙ I .eight; small = I .small; r7 = r7-on l 3 tt;
         core = core 3 tt (eqb-true (rise (v .copied)) (wordsAt (s .arena) (v .from)) y ∙ size);

@@ -12,3 +12,4 @@ pub mod Finishes
 pub mod Begins
 pub mod Copying
 pub mod Commits
+pub mod Ends
