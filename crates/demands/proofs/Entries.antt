@@ -25,6 +25,11 @@ carry-entry {kind = kind} {m = m} E o h same =
       kinded = E .kinded; range = E .range; label = same 1 (omega arith) (omega arith) ∙ E .label; owns = o; head = h;
       vals = λ x w p. same (2 + w) (omega arith) (omega arith) ∙ E .vals x w p }
 
+-- another account that says the same of this meter
+pub same-account : {X : Type 0} {v : Move} {arena : List ℕ} {val val′ : ℕ → ℕ → ℕ} {kind kind′ own : ℕ → ℕ} {m c : ℕ} → kind′ m ≡ kind m → val′ m ≡ val m
+    → EntryOK X v arena val kind own m c → EntryOK X v arena val′ kind′ own m c
+same-account e f E = record { kinded = rw e (E .kinded); range = rw e (E .range); label = rw e (E .label); owns = rw e (E .owns); head = E .head; vals = rw (e, f) (E .vals) }
+
 -- the header of meter a's record, at cell c, becomes w
 module _ {X : Type 0} {dir map : List ℕ} {v : Move} {arena : List ℕ} {val : ℕ → ℕ → ℕ} {kind own : ℕ → ℕ} (C : Core X dir map v arena val kind own)
     (a c : ℕ) (e : entry dir a ≡ c) (here : c < 1024) (w : ℕ) where

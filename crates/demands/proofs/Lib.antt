@@ -13,3 +13,4 @@ pub mod Begins
 pub mod Copying
 pub mod Commits
 pub mod Ends
+pub mod Admits
