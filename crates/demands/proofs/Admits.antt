@@ -42,12 +42,22 @@ use Rattle.demands.proofs.Clients.{Good}
 redirected-row : {X : Type 0} {dir : List ℕ} {v : Move} {kind kind′ : ℕ → ℕ} {h b : ℕ} {r : Row} {q : Client} (a c : ℕ) → ((i : ℕ) → hold r i ≢ none → q .opened i ≢ a)
     → ((m : ℕ) → m ≢ a → kind′ m ≡ kind m) → RowOK X dir v kind h b r q → RowOK X (set dir a c) v kind′ h b r q
 redirected-row {dir = dir} {v = v} {kind = kind} {kind′ = kind′} {r = r} {q = q} a c off same R = record {
-    four = R .four; holds = λ i. keep-hold (off i) (R .holds i); detached = R .detached; passed = R .passed; le = R .le; lt = R .lt;
-    phase = carry-phase (λ e. e)
+  four = R .four;
+  holds = λ i. keep-hold (off i) (R .holds i);
+  detached = R .detached;
+  passed = R .passed;
+  le = R .le;
+  lt = R .lt;
+  phase = carry-phase (λ e. e)
       (λ d x _ W. let z = off _ (W .asked .filled) in record {
-        asked = keep-ask z (W .asked); place = keep-place z (W .place); newest = λ y. keep-entry _ z ∙ W .newest y; away = W .away })
+        asked = keep-ask z (W .asked);
+        place = keep-place z (W .place);
+        newest = λ y. keep-entry _ z ∙ W .newest y;
+        away = W .away;
+      })
       (λ d x W. record { asked = keep-ask (off _ (W .asked .filled)) (W .asked); held = W .held; owes = W .owes; elsewhere = W .elsewhere })
-      (R .phase) }
+      (R .phase);
+}
   where
     keep-entry : (m : ℕ) → m ≢ a → entry (set dir a c) m ≡ entry dir m
     keep-entry m n = getD-set-other dir a m c none n
@@ -78,14 +88,23 @@ module _ {X : Type 0} {dir map : List ℕ} {v : Move} {arena : List ℕ} {val : 
   retired-core =
       let Y = C .entries a present in
       record {
-        entries256 = length-set dir a none ∙ C .entries256; words8192 = C .words8192; is-map = run-map map (entry dir a) n 0 (C .is-map) (omega arith);
+        entries256 = length-set dir a none ∙ C .entries256;
+        words8192 = C .words8192;
+        is-map = run-map map (entry dir a) n 0 (C .is-map) (omega arith);
         entries = set-cases (λ m c. c ≢ none → EntryOK X v arena val kind (repaint own (entry dir a) n none) m c) dir a none none (getD-in dir a none present) (λ z. absurd (z refl))
-          (λ m ne y. let E = C .entries m y in
+            (λ m ne y. let E = C .entries m y in
             carry-entry E (owns-keep own (entry dir a) n none m (entry dir m) (cells (kind m)) (λ x p q e. ne (sym e ∙ Y .owns x p q)) (E .owns)) (E .head) (λ j _ _. refl));
         mapped = mapped-run own map (entry dir a) n none 0 (C .is-map) (Y .range) (omega arith) refl (C .mapped);
         owned = λ x. repaint-cases (λ (i : ℕ). i ≢ none → Block (set dir a none) v kind x i) own (entry dir a) n none x (λ _ _ e. absurd (e refl)) (λ o i. keep-block o (C .owned x i));
-        idle = C .idle; sides = λ b. absurd (no-sides b); count = C .count; old-head = λ l. absurd (idle-late v quiet l); old-label = λ l. absurd (idle-late v quiet l);
-        replica-head = λ l. absurd (idle-early v quiet l); replica-label = λ l. absurd (idle-early v quiet l); replica = λ _ f. absurd (idle-early v quiet (f .0)) }
+        idle = C .idle;
+        sides = λ b. absurd (no-sides b);
+        count = C .count;
+        old-head = λ l. absurd (idle-late v quiet l);
+        old-label = λ l. absurd (idle-late v quiet l);
+        replica-head = λ l. absurd (idle-early v quiet l);
+        replica-label = λ l. absurd (idle-early v quiet l);
+        replica = λ _ f. absurd (idle-early v quiet (f .0));
+      }
     where
       keep-block : {x i : ℕ} → (entry dir a ≤ x → x < entry dir a + cells (kind a) → ⊥) → Block dir v kind x i → Block (set dir a none) v kind x i
       keep-block {x} {i} o (in-entry p q r) =
@@ -110,8 +129,13 @@ retire-inv {X} s g t I =
     (any-get (eqb c) (getD (s .table) i freshRow .holds) none (any-get (holdsCell c) (s .table) freshRow (k .1 .1 .1 .0) (none-fresh c present) i) (ne-eqb c none present) j) (sym e) in
     rw (held-kind (I .core) {h = c} {m = t .a} (here (entry-range (I .core) (t .a) present) refl) present)
     (record {
-      own = repaint (I .own) c (cells (g .kind (t .a))) none; core = retired-core (I .core) quiet (t .a) present; eight = I .eight; r7 = I .r7; small = I .small;
-      rows = λ i. redirected-row (t .a) none (λ j z. held-other (I .core) quiet (t .a) present (I .rows i .holds j) z (free i j)) (λ m _. refl) (I .rows i) }))
+      own = repaint (I .own) c (cells (g .kind (t .a))) none;
+      core = retired-core (I .core) quiet (t .a) present;
+      eight = I .eight;
+      r7 = I .r7;
+      small = I .small;
+      rows = λ i. redirected-row (t .a) none (λ j z. held-other (I .core) quiet (t .a) present (I .rows i .holds j) z (free i j)) (λ m _. refl) (I .rows i);
+    }))
   where
     none-fresh : (c : ℕ) → c ≢ none → holdsCell c freshRow ≡ false
     none-fresh c n = rw (ne-eqb c none n) refl
@@ -167,8 +191,13 @@ module _ {X : Type 0} {dir map : List ℕ} {v : Move} {arena : List ℕ} {val : 
   admitted =
       let z = real k hk in
       same-account {val = λ _ _. 0} {kind = λ _. k} (rw (eq-eqb a a refl)) (rw (eq-eqb a a refl)) (record {
-        kinded = hk; range = run .within; label = new-word 1 (omega arith); owns = repaint-in own c (cells k) a; head = own-head (new-word 0 (omega arith));
-        vals = λ _ w b. new-word (2 + w) (omega arith) ∙ new-zero c a k w })
+        kinded = hk;
+        range = run .within;
+        label = new-word 1 (omega arith);
+        owns = repaint-in own c (cells k) a;
+        head = own-head (new-word 0 (omega arith));
+        vals = λ _ w b. new-word (2 + w) (omega arith) ∙ new-zero c a k w;
+      })
 
   stood : (m : ℕ) → m ≢ a → entry dir m ≢ none → EntryOK X v arena′ val′ kind′ own′ m (entry dir m)
   stood m ne y =
@@ -193,34 +222,41 @@ module _ {X : Type 0} {dir map : List ℕ} {v : Move} {arena : List ℕ} {val : 
       let S = C .sides b in
       let ne = present-other (v .meter) (home-in C b) in
       record {
-        home = old-entry (v .meter) ne ∙ S .home; inside = S .inside; range = rw (moved-kind b) (S .range);
-        owns = rw (moved-kind b) (old-owns other e (cells (kind (v .meter))) (λ z. omega arith) (S .owns)) }
+        home = old-entry (v .meter) ne ∙ S .home;
+        inside = S .inside;
+        range = rw (moved-kind b) (S .range);
+        owns = rw (moved-kind b) (old-owns other e (cells (kind (v .meter))) (λ z. omega arith) (S .owns));
+      }
 
   -- the words of the move's two blocks
   side-word : {d e : ℕ} → Sides v d e → (j : ℕ) → j < 8 * cells (kind (v .meter)) → (word arena′ d j ≡ word arena d j) × (word arena′ e j ≡ word arena e j)
-  side-word {d} {e} b j h =
-      (old-word (v .meter) d (cells (kind (v .meter))) j (λ z. omega (arith, home-lt C b)) (home-entry C b .owns) h,
-      old-word other e (cells (kind (v .meter))) j (λ z. omega arith) (C .sides b .owns) h)
+  side-word {d} {e} b j h = (
+    old-word (v .meter) d (cells (kind (v .meter))) j (λ z. omega (arith, home-lt C b)) (home-entry C b .owns) h,
+    old-word other e (cells (kind (v .meter))) j (λ z. omega arith) (C .sides b .owns) h,
+  )
 
   pub admitted-core : Core X (set dir a c) (putRun map c (cells k) 1) v arena′ val′ kind′ own′
   admitted-core = record {
-      entries256 = length-set dir a c ∙ C .entries256; words8192 = length-laid arena (start c) (newRecord c a k) ∙ C .words8192;
-      is-map = run-map map c (cells k) 1 (C .is-map) (omega arith);
-      entries = set-cases (λ m d. d ≢ none → EntryOK X v arena′ val′ kind′ own′ m d) dir a c none in-dir (λ _. admitted) stood;
-      mapped = mapped-run own map c (cells k) a 1 (C .is-map) (run .within) (omega arith) (rw (ne-eqb a none (λ e. omega arith)) refl) (C .mapped);
-      owned = λ x. repaint-cases (λ (i : ℕ). i ≢ none → Block (set dir a c) v kind′ x i) own c (cells k) a x (λ p q _. new-block p q) (λ _ i. keep-block (C .owned x i));
-      idle = C .idle; sides = λ b. keep-sides b;
-      count = count-same (stageOf (v .stage)) (words (kind (v .meter))) (words (kind′ (v .meter))) (v .copied)
+    entries256 = length-set dir a c ∙ C .entries256;
+    words8192 = length-laid arena (start c) (newRecord c a k) ∙ C .words8192;
+    is-map = run-map map c (cells k) 1 (C .is-map) (omega arith);
+    entries = set-cases (λ m d. d ≢ none → EntryOK X v arena′ val′ kind′ own′ m d) dir a c none in-dir (λ _. admitted) stood;
+    mapped = mapped-run own map c (cells k) a 1 (C .is-map) (run .within) (omega arith) (rw (ne-eqb a none (λ e. omega arith)) refl) (C .mapped);
+    owned = λ x. repaint-cases (λ (i : ℕ). i ≢ none → Block (set dir a c) v kind′ x i) own c (cells k) a x (λ p q _. new-block p q) (λ _ i. keep-block (C .owned x i));
+    idle = C .idle;
+    sides = λ b. keep-sides b;
+    count = count-same (stageOf (v .stage)) (words (kind (v .meter))) (words (kind′ (v .meter))) (v .copied)
         (λ l. ap words (sym (moved-kind (early l)))) (λ l. ap words (sym (moved-kind (late l)))) (C .count);
-      old-head = λ l. let z = home-real C (late l) in side-word (late l) 0 (omega arith) .1 ∙ C .old-head l;
-      old-label = λ l. let z = home-real C (late l) in rw (moved-kind (late l)) (side-word (late l) 1 (omega arith) .1 ∙ C .old-label l);
-      replica-head = λ l p. let z = home-real C (early l) in side-word (early l) 0 (omega arith) .1 ∙ C .replica-head l p;
-      replica-label = λ l p. let z = home-real C (early l) in rw (moved-kind (early l)) (side-word (early l) 1 (omega arith) .1 ∙ C .replica-label l p);
-      replica = λ x f j p q.
+    old-head = λ l. let z = home-real C (late l) in side-word (late l) 0 (omega arith) .1 ∙ C .old-head l;
+    old-label = λ l. let z = home-real C (late l) in rw (moved-kind (late l)) (side-word (late l) 1 (omega arith) .1 ∙ C .old-label l);
+    replica-head = λ l p. let z = home-real C (early l) in side-word (early l) 0 (omega arith) .1 ∙ C .replica-head l p;
+    replica-label = λ l p. let z = home-real C (early l) in rw (moved-kind (early l)) (side-word (early l) 1 (omega arith) .1 ∙ C .replica-label l p);
+    replica = λ x f j p q.
         let b = early (f .0) in
         let z = home-real C b in
         let h : j < 8 * cells (kind (v .meter)) = omega (arith, copied-fit C (f .0)) in
-        side-word b j h .1 ∙ C .replica x (f .0, sym (side-word b 0 (omega arith) .0) ∙ f .1) j p q ∙ sym (side-word b j h .0) }
+        side-word b j h .1 ∙ C .replica x (f .0, sym (side-word b 0 (omega arith) .0) ∙ f .1) j p q ∙ sym (side-word b j h .0);
+  }
     where
       new-block : {x : ℕ} → c ≤ x → x < c + cells k → Block (set dir a c) v kind′ x a
       new-block {x} p q = in-entry (λ z. omega (arith, new-entry, run .within)) (rw new-entry p) (rw (new-entry, eq-eqb a a refl) q)
@@ -240,5 +276,10 @@ admit-inv {X} s g t I =
     let absent = eqb-true (entry (s .control .dir) (t .a)) none (not-false (eqb (entry (s .control .dir) (t .a)) none) (k .1 .1 .0)) in
     let run = lowest-free (s .control .map) (cells (t .b)) (real (t .b) hk .some) (eqb-false c none (k .1 .1 .1 .0)) in
     record {
-      own = repaint (I .own) c (cells (t .b)) (t .a); core = admitted-core (I .core) (t .a) (t .b) c ha hk absent run; eight = I .eight; r7 = I .r7; small = I .small;
-      rows = λ i. admitted-row (I .core) (t .a) (t .b) c ha hk absent run (I .rows i) })
+      own = repaint (I .own) c (cells (t .b)) (t .a);
+      core = admitted-core (I .core) (t .a) (t .b) c ha hk absent run;
+      eight = I .eight;
+      r7 = I .r7;
+      small = I .small;
+      rows = λ i. admitted-row (I .core) (t .a) (t .b) c ha hk absent run (I .rows i);
+    })

@@ -83,10 +83,13 @@ module _ {X : Type 0} {dir map : List ℕ} {v : Move} {arena : List ℕ} {val : 
   moved =
       let z = home-real C (early l) in
       record {
-        kinded = Y .kinded; range = S .range; label = target-word 1 (omega arith) ∙ C .replica-label l (omega arith);
+        kinded = Y .kinded;
+        range = S .range;
+        label = target-word 1 (omega arith) ∙ C .replica-label l (omega arith);
         owns = owns-as other (v .meter) (v .target) (cells (kind (v .meter))) side-owner (S .owns);
         head = own-head (target-word 0 (omega arith) ∙ C .replica-head l (omega arith));
-        vals = λ x w b. target-word (2 + w) (omega arith) ∙ C .replica x (l, flag) (2 + w) (omega arith) (omega arith) ∙ Y .vals x w b }
+        vals = λ x w b. target-word (2 + w) (omega arith) ∙ C .replica x (l, flag) (2 + w) (omega arith) (omega arith) ∙ Y .vals x w b;
+      }
 
   unmoved : (m : ℕ) → m ≢ v .meter → entry dir m ≢ none → EntryOK X v′ arena′ val kind own′ m (entry dir m)
   unmoved m n y =
@@ -110,36 +113,53 @@ module _ {X : Type 0} {dir map : List ℕ} {v : Move} {arena : List ℕ} {val : 
   new-sides : {c d : ℕ} → Sides v′ c d → SidesOK dir′ v′ kind own′ c d
   new-sides (early y) = absurd y
   new-sides (late y) = record {
-      home = new-entry; inside = side-lt C (early l); range = Y .range;
-      owns = owns-as (v .meter) other (v .from) (cells (kind (v .meter))) home-owner (Y .owns) }
+    home = new-entry;
+    inside = side-lt C (early l);
+    range = Y .range;
+    owns = owns-as (v .meter) other (v .from) (cells (kind (v .meter))) home-owner (Y .owns);
+  }
 
   pub committed-core : Core X dir′ map v′ arena′ val kind own′
   committed-core =
       let z = home-real C (early l) in
       record {
-        entries256 = length-set dir (v .meter) (v .target) ∙ C .entries256; words8192 = length-set arena (place (v .from) 0) (plain (v .target)) ∙ C .words8192; is-map = C .is-map;
+        entries256 = length-set dir (v .meter) (v .target) ∙ C .entries256;
+        words8192 = length-set arena (place (v .from) 0) (plain (v .target)) ∙ C .words8192;
+        is-map = C .is-map;
         entries = set-cases (λ m c. c ≢ none → EntryOK X v′ arena′ val kind own′ m c) dir (v .meter) (v .target) none in-dir (λ _. moved) unmoved;
         mapped = mapped-exchange own map (v .meter) other (λ e. omega (arith, home-lt C (early l))) (λ e. omega arith) (C .mapped);
         owned = λ x n. new-block (C .owned x (λ e. n (ap (exchange (v .meter) other) e ∙ nobody)));
-        idle = λ y. absurd y; sides = λ b. new-sides b; count = omega arith;
+        idle = λ y. absurd y;
+        sides = λ b. new-sides b;
+        count = omega arith;
         old-head = λ _. stored-head C (v .meter) (v .from) (S .home) (S .inside) (plain (v .target));
         old-label = λ _. stored-else C (v .meter) (v .from) (S .home) (S .inside) (plain (v .target)) (v .meter) (v .from) (cells (kind (v .meter))) 1 (Y .owns) (omega arith) (λ _. (refl, λ e. omega arith)) ∙ Y .label;
-        replica-head = λ y. absurd y; replica-label = λ y. absurd y; replica = λ _ f. absurd (f .0) }
+        replica-head = λ y. absurd y;
+        replica-label = λ y. absurd y;
+        replica = λ _ f. absurd (f .0);
+      }
     where
       nobody : exchange (v .meter) other none ≡ none
       nobody = exchange-cases (λ i j. j ≡ i) (v .meter) other none (λ e. absurd (omega (arith, home-lt C (early l)))) (λ e. absurd (omega arith)) (λ _ _. refl)
 
   pub committed-row : {h b : ℕ} {r : Row} {q : Client} → (First v → ⊥) → RowOK X dir v kind (header arena (v .from)) b r q → RowOK X dir′ v′ kind h b (cleared r) q
   committed-row {r = r} {q = q} beyond R = record {
-      four = R .four; holds = λ i. new-hold (R .holds i); detached = marked r _ (cleared-passed r) (R .detached);
-      passed = λ _ p i z. omega (arith, R .detached (not-true (r .attached) p) .empty i, S .inside);
-      le = R .le; lt = λ f. absurd (f .0);
-      phase = carry-phase (λ e. e)
+    four = R .four;
+    holds = λ i. new-hold (R .holds i);
+    detached = marked r _ (cleared-passed r) (R .detached);
+    passed = λ _ p i z. omega (arith, R .detached (not-true (r .attached) p) .empty i, S .inside);
+    le = R .le;
+    lt = λ f. absurd (f .0);
+    phase = carry-phase (λ e. e)
         (λ c x _ W. record {
-          asked = W .asked; place = new-place (R .holds _) (W .asked .filled) (W .place); away = λ _ f. absurd (f .0);
-          newest = λ y. old-entry _ (λ z. W .away y (l, flag) (λ k. absurd (beyond k)) (sym (W .newest y) ∙ ap (entry dir) z ∙ S .home)) ∙ W .newest y })
+          asked = W .asked;
+          place = new-place (R .holds _) (W .asked .filled) (W .place);
+          away = λ _ f. absurd (f .0);
+          newest = λ y. old-entry _ (λ z. W .away y (l, flag) (λ k. absurd (beyond k)) (sym (W .newest y) ∙ ap (entry dir) z ∙ S .home)) ∙ W .newest y;
+        })
         (λ c x W. record { asked = W .asked; held = W .held; owes = W .owes; elsewhere = λ f. absurd (f .0) })
-        (R .phase) }
+        (R .phase);
+  }
     where
       new-hold : {h m : ℕ} → HoldOK dir v h m → HoldOK dir′ v′ h m
       new-hold (empty e) = empty e
@@ -166,6 +186,10 @@ commit-inv {X} s g I e flag =
     let now = one-early (isEarly v) l in
     let up : rise (s .control .committed) ≡ suc (s .control .committed) = rise-is (s .control .committed) (s .control .begun) (omega arith) (I .small) in
     record {
-      own = own′ (I .core) l all flag; core = committed-core (I .core) l all flag; eight = length-map (s .table) cleared ∙ I .eight;
+      own = own′ (I .core) l all flag;
+      core = committed-core (I .core) l all flag;
+      eight = length-map (s .table) cleared ∙ I .eight;
       rows = λ i. rw (cleared-get (s .table) i) (committed-row (I .core) l all flag beyond (I .rows i));
-      r7 = omega arith; small = I .small }
+      r7 = omega arith;
+      small = I .small;
+    }

@@ -62,33 +62,47 @@ module _ {X : Type 0} {dir map : List ℕ} {v : Move} {arena : List ℕ} {val : 
       → (X → Flag v (header arena (v .from)) → (j : ℕ) → 0 < j → j < n → word arena′ (v .target) j ≡ word arena (v .from) j)
       → Core X dir map (restaged v k n) arena′ val kind own
   goes-on arena′ len same count head lab replica = record {
-      entries256 = C .entries256; words8192 = len; is-map = C .is-map;
-      entries = λ m y.
+    entries256 = C .entries256;
+    words8192 = len;
+    is-map = C .is-map;
+    entries = λ m y.
         let E = C .entries m y in
         let z = real (kind m) (E .kinded) in
         let o = meter-lt C m y in
         carry-entry E (E .owns) (rw (same m (entry dir m) (cells (kind m)) 0 o (E .owns) (omega arith)) (keep-head (E .head)))
         (λ j _ q. same m (entry dir m) (cells (kind m)) j o (E .owns) q);
-      mapped = C .mapped; owned = λ x i. keep-block (C .owned x i);
-      idle = λ y. absurd (at-stage (λ g. not (inHand g)) rules.early never tt k y on); sides = λ b. keep-sides b; count = count;
-      old-head = λ y. absurd (not-late y); old-label = λ y. absurd (not-late y); replica-head = λ _. head; replica-label = λ _. lab;
-      replica = λ x f j p q.
+    mapped = C .mapped;
+    owned = λ x i. keep-block (C .owned x i);
+    idle = λ y. absurd (at-stage (λ g. not (inHand g)) rules.early never tt k y on);
+    sides = λ b. keep-sides b;
+    count = count;
+    old-head = λ y. absurd (not-late y);
+    old-label = λ y. absurd (not-late y);
+    replica-head = λ _. head;
+    replica-label = λ _. lab;
+    replica = λ x f j p q.
         let E = home-entry C (early l) in
         let z = home-real C (early l) in
         let from : (j : ℕ) → j < 8 * cells (kind (v .meter)) → word arena′ (v .from) j ≡ word arena (v .from) j =
         λ j b. same (v .meter) (v .from) (cells (kind (v .meter))) j (home-lt C (early l)) (E .owns) b in
-        replica x (l, sym (from 0 (omega arith)) ∙ f .1) j p q ∙ sym (from j (omega (arith, copied-le (stageOf k) (words (kind (v .meter))) n on count))) }
+        replica x (l, sym (from 0 (omega arith)) ∙ f .1) j p q ∙ sym (from j (omega (arith, copied-le (stageOf k) (words (kind (v .meter))) n on count)));
+  }
 
 -- a row at another of the first three stages, with another mark, which it passed the first barrier to get
 pub goes-on-row : {X : Type 0} {dir : List ℕ} {v : Move} {kind : ℕ → ℕ} {h h′ b : ℕ} {r : Row} {q : Client} (k n : ℕ) (p : Bool) → Early v → T (rules.early (stageOf k)) → h ≡ h′
     → (r .attached ≡ false → p ≡ true) → (First v → r .passed ≡ true) → RowOK X dir v kind h b r q → RowOK X dir (restaged v k n) kind h′ b (withPassed r p) q
 goes-on-row {dir = dir} {v = v} {h = h} {h′ = h′} {r = r} k n p l on e gone pass R = record {
-    four = R .four; holds = λ i. keep-hold (R .holds i); detached = marked r p gone (R .detached); passed = λ y. absurd (not-both (restaged v k n) on y);
-    le = R .le; lt = λ f. R .lt (back f);
-    phase = carry-phase (λ e. e)
+  four = R .four;
+  holds = λ i. keep-hold (R .holds i);
+  detached = marked r p gone (R .detached);
+  passed = λ y. absurd (not-both (restaged v k n) on y);
+  le = R .le;
+  lt = λ f. R .lt (back f);
+  phase = carry-phase (λ e. e)
       (λ c x _ W. record { asked = W .asked; place = W .place; newest = W .newest; away = λ y f _. W .away y (back f) pass })
       (λ c x W. record { asked = W .asked; held = W .held; owes = W .owes; elsewhere = λ f. W .elsewhere (back f) })
-      (R .phase) }
+      (R .phase);
+}
   where
     back : Flag (restaged v k n) h′ → Flag v h
     back f = (l, e ∙ f .1)
@@ -126,7 +140,7 @@ module _ {X : Type 0} {dir map : List ℕ} {v : Move} {arena : List ℕ} {val : 
       let S = C .sides (early l) in
       ⊎-elim (λ (e : j ≡ v .copied). rw (e, put-at arena (v .target) (v .copied) (replicaWord arena v) (cells (kind (v .meter))) (C .words8192) (S .range) more) new)
       (λ (ne : j ≢ v .copied). rw (put-else own arena other (v .target) (cells (kind (v .meter))) (v .copied) (replicaWord arena v) other (v .target) (cells (kind (v .meter))) j (S .owns) (S .owns) more (omega arith) (λ _. (refl, ne)))
-        (old (omega arith)))
+      (old (omega arith)))
       (same-or-not j (v .copied))
 
   copied-core : (k n : ℕ) → T (rules.early (stageOf k)) → n ≡ suc (v .copied) → Count (stageOf k) (words (kind (v .meter))) n → Core X dir map (restaged v k n) arena′ val kind own
@@ -134,7 +148,7 @@ module _ {X : Type 0} {dir map : List ℕ} {v : Move} {arena : List ℕ} {val : 
       goes-on C l k n on arena′ (length-set arena (place (v .target) (v .copied)) (replicaWord arena v) ∙ C .words8192) meter-word count
       (λ _. replica-cases (λ i x. i ≡ 0 → x ≡ plain (v .target)) 0 (omega arith) (λ z. first-word arena v z) (λ p _. C .replica-head l p) refl)
       (λ two. replica-cases (λ i x. i ≡ 1 → x ≡ labelOf (v .meter) (kind (v .meter))) 1 (omega arith)
-        (λ z. next-word arena v (λ y. omega arith) ∙ ap (word arena (v .from)) z ∙ home-entry C (early l) .label) (λ p _. C .replica-label l p) refl)
+      (λ z. next-word arena v (λ y. omega arith) ∙ ap (word arena (v .from)) z ∙ home-entry C (early l) .label) (λ p _. C .replica-label l p) refl)
       (λ x f j p q. replica-cases (λ i y. 0 < i → y ≡ word arena (v .from) i) j (omega arith) (λ i. next-word arena v (λ y. omega arith)) (λ b i. C .replica x f j i b) p)
 
 module _ {X : Type 0} (s : State) (g : Account) (I : Inv X s g) where
@@ -153,10 +167,14 @@ module _ {X : Type 0} (s : State) (g : Account) (I : Inv X s g) where
       let none-yet : s .control .mv .copied ≡ 0 = count-at firstBarrier e in
       let z = home-real (I .core) (early l) in
       record {
-        own = I .own; eight = I .eight; small = I .small; r7 = r7-on l 2 tt;
+        own = I .own;
+        eight = I .eight;
+        small = I .small;
+        r7 = r7-on l 2 tt;
         core = goes-on (I .core) l 2 (s .control .mv .copied) tt (s .arena) (I .core .words8192) (λ i d z j _ _ _. refl) (omega arith)
-          (λ q. absurd (omega arith)) (λ q. absurd (omega arith)) (λ _ _ j a b. absurd (omega arith));
-        rows = λ i. goes-on-row 2 (s .control .mv .copied) _ l tt refl (λ y. I .rows i .detached y .passed) (λ _. passed-get (s .table) p i) (I .rows i) }
+            (λ q. absurd (omega arith)) (λ q. absurd (omega arith)) (λ _ _ j a b. absurd (omega arith));
+        rows = λ i. goes-on-row 2 (s .control .mv .copied) _ l tt refl (λ y. I .rows i .detached y .passed) (λ _. passed-get (s .table) p i) (I .rows i);
+      }
 
   pub copy-inv : (t : Step) → stageOf (s .control .mv .stage) ≡ copying → Good X ADVANCE g t (copyWord s)
   unfolding copyWord
@@ -172,10 +190,18 @@ module _ {X : Type 0} (s : State) (g : Account) (I : Inv X s g) where
       let beyond : First v → ⊥ = λ y. rw e at y in
       by-test (Good X ADVANCE g t) (eqb (rise (v .copied)) (wordsAt (s .arena) (v .from)))
       (λ y. record {
-        own = I .own; eight = length-map (s .table) cleared ∙ I .eight; small = I .small; r7 = r7-on l 3 tt;
+        own = I .own;
+        eight = length-map (s .table) cleared ∙ I .eight;
+        small = I .small;
+        r7 = r7-on l 3 tt;
         core = core 3 tt (eqb-true (rise (v .copied)) (wordsAt (s .arena) (v .from)) y ∙ size);
-        rows = λ i. rw (cleared-get (s .table) i) (goes-on-row 3 (rise (v .copied)) _ l tt same (cleared-passed (getD (s .table) i freshRow)) (λ y. absurd (beyond y)) (I .rows i)) })
+        rows = λ i. rw (cleared-get (s .table) i) (goes-on-row 3 (rise (v .copied)) _ l tt same (cleared-passed (getD (s .table) i freshRow)) (λ y. absurd (beyond y)) (I .rows i));
+      })
       (λ y. record {
-        own = I .own; eight = I .eight; small = I .small; r7 = r7-on l 2 tt;
+        own = I .own;
+        eight = I .eight;
+        small = I .small;
+        r7 = r7-on l 2 tt;
         core = core 2 tt (let n = eqb-false (rise (v .copied)) (wordsAt (s .arena) (v .from)) y in omega arith);
-        rows = λ i. goes-on-row 2 (rise (v .copied)) _ l tt same (λ y. I .rows i .detached y .passed) (λ y. absurd (beyond y)) (I .rows i) })
+        rows = λ i. goes-on-row 2 (rise (v .copied)) _ l tt same (λ y. I .rows i .detached y .passed) (λ y. absurd (beyond y)) (I .rows i);
+      })

@@ -53,14 +53,23 @@ module _ {X : Type 0} {dir map : List ℕ} {v : Move} {arena : List ℕ} {val : 
 
   pub ended-core : Core X dir (putRun map d (cells (kind (v .meter))) 0) noMove arena val kind (repaint own d (cells (kind (v .meter))) none)
   ended-core = record {
-      entries256 = C .entries256; words8192 = C .words8192; is-map = run-map map d n 0 (C .is-map) (omega arith);
-      entries = λ m y.
+    entries256 = C .entries256;
+    words8192 = C .words8192;
+    is-map = run-map map d n 0 (C .is-map) (omega arith);
+    entries = λ m y.
         let E = C .entries m y in
         carry-entry E (owns-keep own d n none m (entry dir m) (cells (kind m)) (λ x p q e. omega (arith, C .sides b .owns x p q, meter-lt C m y)) (E .owns)) (plain-head (E .head)) (λ j _ _. refl);
-      mapped = mapped-run own map d n none 0 (C .is-map) (C .sides b .range) (omega arith) refl (C .mapped);
-      owned = λ x. repaint-cases (λ (i : ℕ). i ≢ none → Block dir noMove kind x i) own d n none x (λ _ _ e. absurd (e refl)) (λ o i. keep-block o (C .owned x i));
-      idle = λ _. refl; sides = λ y. absurd (nowhere y); count = tt; old-head = λ y. absurd y; old-label = λ y. absurd y;
-      replica-head = λ y. absurd y; replica-label = λ y. absurd y; replica = λ _ f. absurd (f .0) }
+    mapped = mapped-run own map d n none 0 (C .is-map) (C .sides b .range) (omega arith) refl (C .mapped);
+    owned = λ x. repaint-cases (λ (i : ℕ). i ≢ none → Block dir noMove kind x i) own d n none x (λ _ _ e. absurd (e refl)) (λ o i. keep-block o (C .owned x i));
+    idle = λ _. refl;
+    sides = λ y. absurd (nowhere y);
+    count = tt;
+    old-head = λ y. absurd y;
+    old-label = λ y. absurd y;
+    replica-head = λ y. absurd y;
+    replica-label = λ y. absurd y;
+    replica = λ _ f. absurd (f .0);
+  }
     where
       n : ℕ
       n = cells (kind (v .meter))
@@ -76,11 +85,17 @@ module _ {X : Type 0} {dir map : List ℕ} {v : Move} {arena : List ℕ} {val : 
 pub ended-row : {X : Type 0} {dir : List ℕ} {v : Move} {kind : ℕ → ℕ} {h h′ b : ℕ} {r : Row} {q : Client} → (Late v → r .passed ≡ true) → RowOK X dir v kind h b r q
     → RowOK X dir noMove kind h′ b r q
 ended-row {dir = dir} {v = v} pass R = record {
-    four = R .four; holds = λ i. keep-hold (R .holds i) (λ l. R .passed l (pass l) i); detached = R .detached; passed = λ y. absurd y; le = R .le; lt = λ f. absurd (f .0);
-    phase = carry-phase (λ e. e)
+  four = R .four;
+  holds = λ i. keep-hold (R .holds i) (λ l. R .passed l (pass l) i);
+  detached = R .detached;
+  passed = λ y. absurd y;
+  le = R .le;
+  lt = λ f. absurd (f .0);
+  phase = carry-phase (λ e. e)
       (λ c x _ W. record { asked = W .asked; place = W .place; newest = W .newest; away = λ _ f. absurd (f .0) })
       (λ c x W. record { asked = W .asked; held = W .held; owes = W .owes; elsewhere = λ f. absurd (f .0) })
-      (R .phase) }
+      (R .phase);
+}
   where
     keep-hold : {h m : ℕ} → HoldOK dir v h m → (Late v → h ≢ v .from) → HoldOK dir noMove h m
     keep-hold (empty e) n = empty e
@@ -98,16 +113,25 @@ module _ {X : Type 0} (s : State) (g : Account) (I : Inv X s g) where
       let now = one-early (isEarly v) l in
       let up : rise (s .control .aborted) ≡ suc (s .control .aborted) = rise-is (s .control .aborted) (s .control .begun) (omega arith) (I .small) in
       rw (from-kind (I .core) (early l)) (record {
-        own = repaint (I .own) (v .target) (cells (g .kind (v .meter))) none; core = ended-core (I .core) (λ f. down (f .1)) (early l);
-        eight = I .eight; rows = λ i. ended-row (λ y. absurd (not-both v l y)) (I .rows i); r7 = omega arith; small = I .small })
+        own = repaint (I .own) (v .target) (cells (g .kind (v .meter))) none;
+        core = ended-core (I .core) (λ f. down (f .1)) (early l);
+        eight = I .eight;
+        rows = λ i. ended-row (λ y. absurd (not-both v l y)) (I .rows i);
+        r7 = omega arith;
+        small = I .small;
+      })
 
   give-back-inv : stageOf (v .stage) ≡ thirdBarrier → allPassed (s .table) ≡ true → Inv X (giveBack s .next) g
   give-back-inv e p =
       let l : Late v = rw e tt in
       rw (from-kind (I .core) (late l)) (record {
-        own = repaint (I .own) (v .from) (cells (g .kind (v .meter))) none; core = ended-core (I .core) (λ f. not-both v (f .0) l) (late l);
-        eight = I .eight; rows = λ i. ended-row (λ _. passed-get (s .table) p i) (I .rows i);
-        r7 = omega (arith, I .r7, one-not (isEarly v) (λ y. not-both v y l)); small = I .small })
+        own = repaint (I .own) (v .from) (cells (g .kind (v .meter))) none;
+        core = ended-core (I .core) (λ f. not-both v (f .0) l) (late l);
+        eight = I .eight;
+        rows = λ i. ended-row (λ _. passed-get (s .table) p i) (I .rows i);
+        r7 = omega (arith, I .r7, one-not (isEarly v) (λ y. not-both v y l));
+        small = I .small;
+      })
 
   module _ (t : Step) where
     beyond : (o : Outcome) → (allPassed (s .table) ≡ true → Good X ADVANCE g t o) → Good X ADVANCE g t (barrier s o)

@@ -22,8 +22,13 @@ pub carry-entry : {X : Type 0} {v v′ : Move} {arena arena′ : List ℕ} {val 
 carry-entry {kind = kind} {m = m} E o h same =
     let z : Real (kind m) = real (kind m) (E .kinded) in
     record {
-      kinded = E .kinded; range = E .range; label = same 1 (omega arith) (omega arith) ∙ E .label; owns = o; head = h;
-      vals = λ x w p. same (2 + w) (omega arith) (omega arith) ∙ E .vals x w p }
+      kinded = E .kinded;
+      range = E .range;
+      label = same 1 (omega arith) (omega arith) ∙ E .label;
+      owns = o;
+      head = h;
+      vals = λ x w p. same (2 + w) (omega arith) (omega arith) ∙ E .vals x w p;
+    }
 
 -- another account that says the same of this meter
 pub same-account : {X : Type 0} {v : Move} {arena : List ℕ} {val val′ : ℕ → ℕ → ℕ} {kind kind′ own : ℕ → ℕ} {m c : ℕ} → kind′ m ≡ kind m → val′ m ≡ val m

@@ -54,19 +54,30 @@ module _ {X : Type 0} {dir map : List ℕ} {v : Move} {arena : List ℕ} {val : 
       let E : EntryOK X v arena val kind own m c = rw e at (C .entries m (λ z. n (sym e ∙ z))) in
       let b = meter-lt C m (λ z. n (sym e ∙ z)) in
       record {
-        kinded = E .kinded; owns = E .owns; room = E .range; entry = λ n z y. sym e ∙ ap (entry dir) y; side = λ y. absurd (omega arith);
-        mine = λ _. refl }
+        kinded = E .kinded;
+        owns = E .owns;
+        room = E .range;
+        entry = λ n z y. sym e ∙ ap (entry dir) y;
+        side = λ y. absurd (omega arith);
+        mine = λ _. refl;
+      }
 
   pub spot : {h m c : ℕ} → HoldOK dir v h m → h ≢ none → Place dir h m c → (X → entry dir m ≡ c) → (i : ℕ) × Spot X dir v kind own i m c
   spot {h} {m} k n (at-entry e) f = (m, own-spot e (λ z. held-in C k n (e ∙ z)))
   spot (empty e) n (at-hold y) f = absurd (n e)
   spot {h} {m} (here r e) n (at-hold y) f = (m, own-spot (e ∙ y) (λ z. n (y ∙ z)))
   spot {h} {m} {c} (was l e q) n (at-hold y) f =
-      let S = C .sides (late l) in
-      (other, record {
-        kinded = rw q (home-entry C (late l) .kinded); owns = rw (q, ← y, e) (S .owns); room = rw (q, ← y, e) (S .range);
-        entry = λ n z w. absurd (omega (arith, meter-lt C n z)); side = λ _. (l, sym y ∙ e);
-        mine = λ x. absurd (side-apart C (late l) m (f x ∙ sym y ∙ e)) })
+      let S = C .sides (late l) in (
+        other,
+        record {
+          kinded = rw q (home-entry C (late l) .kinded);
+          owns = rw (q, ← y, e) (S .owns);
+          room = rw (q, ← y, e) (S .range);
+          entry = λ n z w. absurd (omega (arith, meter-lt C n z));
+          side = λ _. (l, sym y ∙ e);
+          mine = λ x. absurd (side-apart C (late l) m (f x ∙ sym y ∙ e));
+        },
+      )
 
 -- what a finished write does to the words: the heart of demand 2
 module _ {X : Type 0} {dir map : List ℕ} {v : Move} {arena : List ℕ} {val : ℕ → ℕ → ℕ} {kind own : ℕ → ℕ} (C : Core X dir map v arena val kind own)
@@ -99,33 +110,46 @@ module _ {X : Type 0} {dir map : List ℕ} {v : Move} {arena : List ℕ} {val : 
       let same : (j : ℕ) → j < 8 * cells (kind n) → (i ≡ n → j ≢ 2 + w) → word arena′ (entry dir n) j ≡ word arena (entry dir n) j =
       λ j b f. else n (entry dir n) (cells (kind n)) j (E .owns) b (λ e. (S .entry n y e, f e)) in
       record {
-        kinded = E .kinded; range = E .range; label = same 1 (omega arith) (λ _ e. omega arith) ∙ E .label; owns = E .owns;
+        kinded = E .kinded;
+        range = E .range;
+        label = same 1 (omega arith) (λ _ e. omega arith) ∙ E .label;
+        owns = E .owns;
         head = rw (same 0 (omega arith) (λ _ e. omega arith)) (E .head);
         vals = λ x j b.
-          by-test (λ (f : ℕ → ℕ). word arena′ (entry dir n) (2 + j) ≡ f j) (eqb n m)
-          (λ p. let nm = eqb-true n m p in
+            by-test (λ (f : ℕ → ℕ). word arena′ (entry dir n) (2 + j) ≡ f j) (eqb n m)
+            (λ p. let nm = eqb-true n m p in
             by-test (λ (b : ℕ). word arena′ (entry dir n) (2 + j) ≡ b) (eqb j w)
             (λ q. let sz = real (kind m) (S .kinded) in
-              ap (λ (k : ℕ). word arena′ (entry dir n) (2 + k)) (eqb-true j w q)
-              ∙ ap (λ (k : ℕ). word arena′ k (2 + w)) (sym (S .entry n y (S .mine x ∙ sym nm)))
-              ∙ put-at arena c (2 + w) u (cells (kind m)) (C .words8192) (S .room) (omega arith))
+            ap (λ (k : ℕ). word arena′ (entry dir n) (2 + k)) (eqb-true j w q)
+            ∙ ap (λ (k : ℕ). word arena′ k (2 + w)) (sym (S .entry n y (S .mine x ∙ sym nm)))
+            ∙ put-at arena c (2 + w) u (cells (kind m)) (C .words8192) (S .room) (omega arith))
             (λ q. same (2 + j) (omega arith) (λ _ e. eqb-false j w q (omega arith)) ∙ E .vals x j b ∙ ap (λ (k : ℕ). val k j) nm))
-          (λ p. same (2 + j) (omega arith) (λ e. absurd (eqb-false n m p (sym e ∙ S .mine x))) ∙ E .vals x j b) }
+            (λ p. same (2 + j) (omega arith) (λ e. absurd (eqb-false n m p (sym e ∙ S .mine x))) ∙ E .vals x j b);
+      }
 
   pub written-core : (X → Flag v (header arena (v .from)) → 0 < v .copied → c ≢ v .from) → Core X dir map v arena′ (update val m (update (val m) w u)) kind own
   written-core away = record {
-      entries256 = C .entries256; words8192 = length-set arena (place c (2 + w)) u ∙ C .words8192; is-map = C .is-map;
-      entries = written-entry; mapped = C .mapped; owned = C .owned; idle = C .idle; sides = C .sides; count = C .count;
-      old-head = λ l. from-word l 0 (omega arith) ∙ C .old-head l; old-label = λ l. from-word l 1 (omega arith) ∙ C .old-label l;
-      replica-head = λ l p. let z = home-real C (early l) in target-word l 0 (omega arith) ∙ C .replica-head l p;
-      replica-label = λ l p. let z = home-real C (early l) in target-word l 1 (omega arith) ∙ C .replica-label l p;
-      replica = λ x f k p q.
+    entries256 = C .entries256;
+    words8192 = length-set arena (place c (2 + w)) u ∙ C .words8192;
+    is-map = C .is-map;
+    entries = written-entry;
+    mapped = C .mapped;
+    owned = C .owned;
+    idle = C .idle;
+    sides = C .sides;
+    count = C .count;
+    old-head = λ l. from-word l 0 (omega arith) ∙ C .old-head l;
+    old-label = λ l. from-word l 1 (omega arith) ∙ C .old-label l;
+    replica-head = λ l p. let z = home-real C (early l) in target-word l 0 (omega arith) ∙ C .replica-head l p;
+    replica-label = λ l p. let z = home-real C (early l) in target-word l 1 (omega arith) ∙ C .replica-label l p;
+    replica = λ x f k p q.
         let l = f .0 in
         let f′ : Flag v (header arena (v .from)) = (l, sym (home-head l) ∙ f .1) in
         let b : k < 8 * cells (kind (v .meter)) = omega (arith, copied-fit C l) in
         target-word l k b ∙ C .replica x f′ k p q
         ∙ sym (else (v .meter) (v .from) (cells (kind (v .meter))) k (home-entry C (early l) .owns) b
-          (λ y. absurd (away x f′ (omega arith) (S .entry (v .meter) (home-in C (early l)) y ∙ C .sides (early l) .home)))) }
+        (λ y. absurd (away x f′ (omega arith) (S .entry (v .meter) (home-in C (early l)) y ∙ C .sides (early l) .home))));
+  }
 
 module _ {X : Type 0} (s : State) (g : Account) (t : Step) (I : Inv X s g) (seat : pred (t .who) < 8) where
   R : RowIn X s g (ownRow s t) (clientOf g t)
@@ -146,8 +170,14 @@ module _ {X : Type 0} (s : State) (g : Account) (t : Step) (I : Inv X s g) (seat
         reflag-row (λ f. (f .0, sym (e (f .0)) ∙ f .1))
         (set-both (RowIn X s g) (s .table) (g .clients) (pred (t .who)) (withPhase (ownRow s t) Resting) (withPending (clientOf g t) noAccess) freshRow (omega (arith, I .eight))
         (record {
-          four = R .four; holds = R .holds; detached = λ z. let D = R .detached z in record { passed = D .passed; empty = D .empty; rests = refl };
-          passed = R .passed; le = R .le; lt = R .lt; phase = rests refl })
+          four = R .four;
+          holds = R .holds;
+          detached = λ z. let D = R .detached z in record { passed = D .passed; empty = D .empty; rests = refl };
+          passed = R .passed;
+          le = R .le;
+          lt = R .lt;
+          phase = rests refl;
+        })
         (I .rows) i)
 
     away : X → Flag (s .control .mv) (header (s .arena) (s .control .mv .from)) → 0 < s .control .mv .copied → c ≢ s .control .mv .from
@@ -156,13 +186,22 @@ module _ {X : Type 0} (s : State) (g : Account) (t : Step) (I : Inv X s g) (seat
   finish-inv : (c : ℕ) (x : Access) → ReadyOK X (s .control .dir) (s .control .mv) (g .kind) (header (s .arena) (s .control .mv .from)) (ownRow s t) (clientOf g t) c x
       → Next (finish (s .arena) (ownRow s t) c x)
   finish-inv c (Read h w) W = rw (W .asked .pending) (record {
-      own = I .own; core = I .core; eight = length-set (s .table) (pred (t .who)) _ ∙ I .eight; r7 = I .r7; small = I .small;
-      rows = rested c (Read h w) W (header (s .arena) (s .control .mv .from)) (λ _. refl) })
+    own = I .own;
+    core = I .core;
+    eight = length-set (s .table) (pred (t .who)) _ ∙ I .eight;
+    r7 = I .r7;
+    small = I .small;
+    rows = rested c (Read h w) W (header (s .arena) (s .control .mv .from)) (λ _. refl);
+  })
   finish-inv c (Write h w u) W = rw (W .asked .pending) (let S = spot-of c (Write h w u) W in record {
-      own = I .own; eight = length-set (s .table) (pred (t .who)) _ ∙ I .eight; r7 = I .r7; small = I .small;
-      core = written-core (I .core) (S .0) (clientOf g t .opened h) c w u (S .1) (W .asked .fits) (away c (Write h w u) W);
-      rows = rested c (Write h w u) W (header (set (s .arena) (place c (2 + w)) u) (s .control .mv .from))
-        (home-head (I .core) (S .0) (clientOf g t .opened h) c w u (S .1) (W .asked .fits)) })
+    own = I .own;
+    eight = length-set (s .table) (pred (t .who)) _ ∙ I .eight;
+    r7 = I .r7;
+    small = I .small;
+    core = written-core (I .core) (S .0) (clientOf g t .opened h) c w u (S .1) (W .asked .fits) (away c (Write h w u) W);
+    rows = rested c (Write h w u) W (header (set (s .arena) (place c (2 + w)) u) (s .control .mv .from))
+        (home-head (I .core) (S .0) (clientOf g t .opened h) c w u (S .1) (W .asked .fits));
+  })
 
   by-phase : {p : Phase} → PhaseOK X (s .control .dir) (s .control .mv) (g .kind) (header (s .arena) (s .control .mv .from)) (s .control .begun) (ownRow s t) (clientOf g t) p
       → not (ownRow s t .attached) ≡ false → not (busy p) ≡ false → Next (go (s .arena) (ownRow s t) p)

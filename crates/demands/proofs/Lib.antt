@@ -14,3 +14,4 @@ pub mod Copying
 pub mod Commits
 pub mod Ends
 pub mod Admits
+pub mod Always
