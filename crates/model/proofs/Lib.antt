@@ -2,6 +2,9 @@ pub mod Choice
 pub mod ByKind
 pub mod Bits
 pub mod CellMap
+pub mod Refusals
+pub mod Answered
+pub mod Effects
 pub mod Says
 pub mod Stages
 pub mod Readings
