@@ -2,3 +2,4 @@ pub mod Choice
 pub mod ByKind
 pub mod Bits
 pub mod CellMap
+pub mod Records
