@@ -1,7 +1,7 @@
 // Numbers in bytes, lowest byte first: one number, and lists of them, of two, four and eight bytes.
 // Knows nothing of what the numbers mean. Each `requires` is a size that the exported calls have tested.
 ghost use mathlib.Core.Path.{_≡_};
-ghost use Prim.Native.Nat.{_+_, _*_, _^_, _≤_};
+ghost use Prim.Native.Nat.{_+_, _*_, _≤_};
 ghost use lib.ListN.{length};
 ghost use Rattle.model.specs.Records.{laid};
 ghost use Rattle.wire.specs.Bytes.{number, bytes, numbers, allBytes};
@@ -90,6 +90,56 @@ pub fn words_out(b: &mut [u8], at: usize, ws: &[u32])
     let mut i = 0;
     while i < ws.len() {
         put4(b, at + 4 * i, ws[i]);
+        i += 1;
+    }
+}
+
+// The 256 numbers of two bytes from a place on, as the directory has them.
+pub fn halves_in(b: &[u8], at: usize) -> [u16; 256]
+    requires { ⌜ at + 512 ≤ length (now b) ⌝ }
+    ensures { λ r. ⌜ r ≡ numbers 2 256 (now (b .entry)) at ⌝ }
+{
+    let mut out = [0u16; 256];
+    let mut i: usize = 0;
+    while i < 256 {
+        out[i] = get2(b, at + 2 * i);
+        i += 1;
+    }
+    out
+}
+
+pub fn halves_out(b: &mut [u8], at: usize, ws: [u16; 256])
+    requires { ⌜ at + 512 ≤ length (now b) ⌝ }
+    ensures { λ r. ⌜ now (b .exit) ≡ laid (now (b .entry)) at (allBytes 2 ws) ⌝ }
+{
+    let mut i: usize = 0;
+    while i < 256 {
+        put2(b, at + 2 * i, ws[i]);
+        i += 1;
+    }
+}
+
+// The sixteen numbers of eight bytes from a place on, as the map has them.
+pub fn longs_in(b: &[u8], at: usize) -> [u64; 16]
+    requires { ⌜ at + 128 ≤ length (now b) ⌝ }
+    ensures { λ r. ⌜ r ≡ numbers 8 16 (now (b .entry)) at ⌝ }
+{
+    let mut out = [0u64; 16];
+    let mut i: usize = 0;
+    while i < 16 {
+        out[i] = get8(b, at + 8 * i);
+        i += 1;
+    }
+    out
+}
+
+pub fn longs_out(b: &mut [u8], at: usize, ws: [u64; 16])
+    requires { ⌜ at + 128 ≤ length (now b) ⌝ }
+    ensures { λ r. ⌜ now (b .exit) ≡ laid (now (b .entry)) at (allBytes 8 ws) ⌝ }
+{
+    let mut i: usize = 0;
+    while i < 16 {
+        put8(b, at + 8 * i, ws[i]);
         i += 1;
     }
 }

@@ -1,29 +1,22 @@
+-- `wire::get2` meets its contract: two bytes joined are the number. Assumes nothing.
 use mathlib.Core.Path.{_∙_, sym}
 use Rattle.wire.proofs.Bytes.{number-two}
 use borrow.Author.Needs.{needs}
 use Rattle.wire.proofs.get2.Statement.{statement}
 use Rattle.wire.proofs.get2.Tie as tie
-use Rattle.wire.proofs.get2.Reads as reads
-use Rattle.wire.proofs.get2.Lts as lts
-use Rattle.wire.proofs.join2.Reads as join2-reads
 
--- src/lib.rt:31:11
 shared-slice-read-join2 : tie.Need-shared-slice-read-join2
 shared-slice-read-join2 c = search needs
 
--- src/lib.rt:31:20
 add-join2 : tie.Need-add-join2
 add-join2 c = search needs
 
--- src/lib.rt:31:18
 shared-slice-read-join2-2 : tie.Need-shared-slice-read-join2-2
 shared-slice-read-join2-2 c = search needs
 
--- src/lib.rt:31:5
 join2-requires : tie.Need-join2-requires
 join2-requires c κs = search needs
 
--- src/lib.rt:27:1
 returns : tie.Need-returns
 returns c = c .join2 .ensures ∙ sym (number-two _ _)
 

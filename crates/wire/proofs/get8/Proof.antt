@@ -1,31 +1,23 @@
+-- `wire::get8` meets its contract: two halves joined are the number. Assumes nothing.
 use mathlib.Core.Path.{_∙_, sym, ap₂}
 use Prim.Native.Nat.{ℕ, _+_, _*_}
 use Rattle.wire.proofs.Bytes.{number-join}
 use borrow.Author.Needs.{needs}
 use Rattle.wire.proofs.get8.Statement.{statement}
 use Rattle.wire.proofs.get8.Tie as tie
-use Rattle.wire.proofs.get8.Reads as reads
-use Rattle.wire.proofs.get8.Lts as lts
-use Rattle.wire.proofs.get4.Reads as get4-reads
-use Rattle.wire.proofs.join8.Reads as join8-reads
 
--- src/lib.rt:45:11
 get4-requires : tie.Need-get4-requires
 get4-requires c κs = search needs
 
--- src/lib.rt:45:32
 add-get4 : tie.Need-add-get4
 add-get4 c = search needs
 
--- src/lib.rt:45:24
 get4-requires-2 : tie.Need-get4-requires-2
 get4-requires-2 c κs = search needs
 
--- src/lib.rt:45:5
 join8-requires : tie.Need-join8-requires
 join8-requires c κs = search needs
 
--- src/lib.rt:41:1
 returns : tie.Need-returns
 returns c = c .join8 .ensures ∙ ap₂ (λ (x y : ℕ). x + 4294967296 * y) (c .before .before .get4 .ensures) (c .before .get42 .ensures) ∙ sym (number-join 4 4 _ _)
 

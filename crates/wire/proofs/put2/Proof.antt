@@ -1,3 +1,4 @@
+-- `wire::put2` meets its contract: two stores are two bytes laid. Assumes nothing.
 use mathlib.Core.Path.{_∙_, sym, ap}
 use native.Mathlib.Omega.{arith}
 use lib.ListN.{length-set}
@@ -7,34 +8,25 @@ use Rattle.wire.proofs.Bytes.{bytes-two}
 use borrow.Author.Needs.{needs}
 use Rattle.wire.proofs.put2.Statement.{statement}
 use Rattle.wire.proofs.put2.Tie as tie
-use Rattle.wire.proofs.put2.Reads as reads
-use Rattle.wire.proofs.put2.Lts as lts
 
--- src/lib.rt:53:13
 cast-b : tie.Need-cast-b
 cast-b c = search needs
 
--- src/lib.rt:53:5
 slice-write-b : tie.Need-slice-write-b
 slice-write-b c = search needs
 
--- src/lib.rt:54:17
 cast-b-2 : tie.Need-cast-b-2
 cast-b-2 c = search needs
 
--- src/lib.rt:54:7
 add-b : tie.Need-add-b
 add-b c = search needs
 
--- src/lib.rt:54:5
 slice-write-b-2 : tie.Need-slice-write-b-2
 slice-write-b-2 c = simp length-set (omega arith)
 
--- src/lib.rt:49:1
 same-length : tie.Need-same-length
 same-length c = search needs
 
--- src/lib.rt:49:1
 returns : tie.Need-returns
 returns c = two-stores _ _ _ _ ∙ ap (laid _ _) (sym (bytes-two _ (search needs)))
 

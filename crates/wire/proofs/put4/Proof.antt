@@ -1,37 +1,28 @@
+-- `wire::put4` meets its contract: the low half, then the high half. Assumes nothing.
 use mathlib.Core.Path.{_∙_}
 use Rattle.wire.proofs.Bytes.{put-join}
 use borrow.Author.Needs.{needs}
 use Rattle.wire.proofs.put4.Statement.{statement}
 use Rattle.wire.proofs.put4.Tie as tie
-use Rattle.wire.proofs.put4.Reads as reads
-use Rattle.wire.proofs.put4.Lts as lts
-use Rattle.wire.proofs.put2.Reads as put2-reads
 
--- src/lib.rt:61:17
 cast-put2 : tie.Need-cast-put2
 cast-put2 c = search needs
 
--- src/lib.rt:61:5
 put2-requires : tie.Need-put2-requires
 put2-requires c κs = search needs
 
--- src/lib.rt:62:13
 add-put2 : tie.Need-add-put2
 add-put2 c = search needs
 
--- src/lib.rt:62:21
 cast-put2-2 : tie.Need-cast-put2-2
 cast-put2-2 c = search needs
 
--- src/lib.rt:62:5
 put2-requires-2 : tie.Need-put2-requires-2
 put2-requires-2 c κs = search needs
 
--- src/lib.rt:57:1
 same-length : tie.Need-same-length
 same-length c = search needs
 
--- src/lib.rt:57:1
 returns : tie.Need-returns
 returns c = rw (c .before .before .before .before .before .before .put2 .ensures) at (c .before .before .put22 .ensures) ∙ put-join 2 2 _ _ _
 

@@ -1,37 +1,28 @@
+-- `wire::put8` meets its contract: the low half, then the high half. Assumes nothing.
 use mathlib.Core.Path.{_∙_}
 use Rattle.wire.proofs.Bytes.{put-join}
 use borrow.Author.Needs.{needs}
 use Rattle.wire.proofs.put8.Statement.{statement}
 use Rattle.wire.proofs.put8.Tie as tie
-use Rattle.wire.proofs.put8.Reads as reads
-use Rattle.wire.proofs.put8.Lts as lts
-use Rattle.wire.proofs.put4.Reads as put4-reads
 
--- src/lib.rt:69:17
 cast-put4 : tie.Need-cast-put4
 cast-put4 c = search needs
 
--- src/lib.rt:69:5
 put4-requires : tie.Need-put4-requires
 put4-requires c κs = search needs
 
--- src/lib.rt:70:13
 add-put4 : tie.Need-add-put4
 add-put4 c = search needs
 
--- src/lib.rt:70:21
 cast-put4-2 : tie.Need-cast-put4-2
 cast-put4-2 c = search needs
 
--- src/lib.rt:70:5
 put4-requires-2 : tie.Need-put4-requires-2
 put4-requires-2 c κs = search needs
 
--- src/lib.rt:65:1
 same-length : tie.Need-same-length
 same-length c = search needs
 
--- src/lib.rt:65:1
 returns : tie.Need-returns
 returns c = rw (c .before .before .before .before .before .before .put4 .ensures) at (c .before .before .put42 .ensures) ∙ put-join 4 4 _ _ _
 

@@ -12,9 +12,6 @@ use Rattle.wire.proofs.Bytes.{length-numbers, one-in}
 use Rattle.wire.proofs.Laid.{laid-all}
 use Rattle.wire.proofs.words_in.Statement.{statement}
 use Rattle.wire.proofs.words_in.Tie as tie
-use Rattle.wire.proofs.words_in.Reads as reads
-use Rattle.wire.proofs.words_in.Lts as lts
-use Rattle.wire.proofs.get4.Reads as get4-reads
 
 abbrev Inv-loop : tie.InvT-loop
 Inv-loop b at out₀ i₀ out i = (out ≡ laid out₀ 0 (numbers 4 i b at)) × (i ≤ length out₀) × (length out ≡ length out₀)
@@ -22,50 +19,39 @@ Inv-loop b at out₀ i₀ out i = (out ≡ laid out₀ 0 (numbers 4 i b at)) × 
 abbrev μ-loop : tie.MeasureT-loop
 μ-loop b at out₀ i₀ out i = length out₀ - i
 
--- src/lib.rt:79:5
 loop-holds : tie.Need-loop-holds Inv-loop μ-loop
 unfolding numbers
 loop-holds c = (sym (laid-none _ _), omega arith, refl)
 
--- src/lib.rt:80:31
 mul-get4 : tie.Need-mul-get4 Inv-loop μ-loop
 mul-get4 c = search needs
 
--- src/lib.rt:80:26
 add-get4 : tie.Need-add-get4 Inv-loop μ-loop
 add-get4 c = search needs
 
--- src/lib.rt:80:18
 get4-requires : tie.Need-get4-requires Inv-loop μ-loop
 get4-requires c κs = search needs
 
--- src/lib.rt:80:9
 mul-out : tie.Need-mul-out Inv-loop μ-loop
 mul-out c = search needs
 
--- src/lib.rt:80:9
 slice-write-out : tie.Need-slice-write-out Inv-loop μ-loop
 slice-write-out c = search needs
 
--- src/lib.rt:81:9
 add-i : tie.Need-add-i Inv-loop μ-loop
 add-i c = search needs
 
--- src/lib.rt:79:5
 loop-less : tie.Need-loop-less Inv-loop μ-loop
 loop-less c = omega arith
 
--- src/lib.rt:79:5
 loop-again : tie.Need-loop-again Inv-loop μ-loop
 loop-again c =
     let l = c .before .before .loop in
     (ap₂ (λ (a : List ℕ) (x : ℕ). set a (l .i) x) (l .inv .0) (c .get4 .ensures) ∙ one-in 4 (l .i) _ _ _, omega arith, simp length-set (l .inv .2))
 
--- src/lib.rt:74:1
 same-length : tie.Need-same-length Inv-loop μ-loop
 same-length c = c .before .loop .inv .2
 
--- src/lib.rt:74:1
 returns : tie.Need-returns Inv-loop μ-loop
 returns c =
     let l = c .before .loop in
