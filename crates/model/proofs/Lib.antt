@@ -6,3 +6,8 @@ pub mod Refusals
 pub mod Answered
 pub mod Records
 pub mod Counts
+pub mod Effects
+pub mod Says
+pub mod Stages
+pub mod Readings
+pub mod Fresh

@@ -1,0 +1,51 @@
+-- The stages of a move as types that compute: 01's "its first three stages" and "the third barrier". Assumes nothing.
+use mathlib.Core.Path.{_≡_, refl}
+use Prim.Native.Nat.{ℕ, zero, suc, _<_}
+use native.Mathlib.Omega.{arith}
+use Rattle.model.specs.State.{Stage, idle, firstBarrier, copying, secondBarrier, thirdBarrier, stageOf}
+use Rattle.model.specs.Rules.{early, late}
+use Rattle.model.proofs.Says.{Says, says-yes, says-no}
+
+abbrev pub Idle : Stage → Type 0
+Idle idle = Unit {0}
+Idle firstBarrier = ⊥
+Idle copying = ⊥
+Idle secondBarrier = ⊥
+Idle thirdBarrier = ⊥
+
+abbrev pub Early : Stage → Type 0
+Early idle = ⊥
+Early firstBarrier = Unit {0}
+Early copying = Unit {0}
+Early secondBarrier = Unit {0}
+Early thirdBarrier = ⊥
+
+abbrev pub Late : Stage → Type 0
+Late idle = ⊥
+Late firstBarrier = ⊥
+Late copying = ⊥
+Late secondBarrier = ⊥
+Late thirdBarrier = Unit {0}
+
+pub says-early : (g : Stage) → Says (early g) (Early g)
+says-early idle = says-no
+says-early firstBarrier = says-yes
+says-early copying = says-yes
+says-early secondBarrier = says-yes
+says-early thirdBarrier = says-no
+
+pub says-late : (g : Stage) → Says (late g) (Late g)
+says-late idle = says-no
+says-late firstBarrier = says-no
+says-late copying = says-no
+says-late secondBarrier = says-no
+says-late thirdBarrier = says-yes
+
+-- among the numbers that are a stage only 0 is none
+pub idle-zero : (n : ℕ) → n < 5 → Idle (stageOf n) → n ≡ 0
+idle-zero zero h i = refl
+idle-zero (suc zero) h i = absurd i
+idle-zero (suc (suc zero)) h i = absurd i
+idle-zero (suc (suc (suc zero))) h i = absurd i
+idle-zero (suc (suc (suc (suc zero)))) h i = absurd i
+idle-zero (suc (suc (suc (suc (suc n))))) h i = absurd (omega arith)
