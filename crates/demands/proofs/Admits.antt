@@ -229,7 +229,7 @@ module _ {X : Type 0} {dir map : List ℕ} {v : Move} {arena : List ℕ} {val : 
       }
 
   -- the words of the move's two blocks
-  side-word : {d e : ℕ} → Sides v d e → (j : ℕ) → j < 8 * cells (kind (v .meter)) → (word arena′ d j ≡ word arena d j) × (word arena′ e j ≡ word arena e j)
+  pub side-word : {d e : ℕ} → Sides v d e → (j : ℕ) → j < 8 * cells (kind (v .meter)) → (word arena′ d j ≡ word arena d j) × (word arena′ e j ≡ word arena e j)
   side-word {d} {e} b j h = (
     old-word (v .meter) d (cells (kind (v .meter))) j (λ z. omega (arith, home-lt C b)) (home-entry C b .owns) h,
     old-word other e (cells (kind (v .meter))) j (λ z. omega arith) (C .sides b .owns) h,

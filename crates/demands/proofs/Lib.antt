@@ -15,3 +15,4 @@ pub mod Commits
 pub mod Ends
 pub mod Admits
 pub mod Always
+pub mod Did
