@@ -60,7 +60,7 @@ pub data Kept (s : State) (t : Step) : Answer → State → Type 0 where
   retires : (m c : ℕ) → Kept s t (Done 0) (retire s m c .next)
   begins : (c d : ℕ) → Idle (s .control .mv) → rise (s .control .begun) ≡ suc (s .control .begun)
       → header (set (s .arena) (place c 0) (flagged c)) c ≡ flagged c → Kept s t (Begun d) (begin s (t .a) c d .next)
-  starts : stageOf (s .control .mv .stage) ≡ firstBarrier → Kept s t CopyingStarts (startCopying s .next)
+  starts : stageOf (s .control .mv .stage) ≡ firstBarrier → s .control .mv .copied ≡ 0 → Kept s t CopyingStarts (startCopying s .next)
   copies : stageOf (s .control .mv .stage) ≡ copying → rise (s .control .mv .copied) ≡ suc (s .control .mv .copied)
       → header (copied s copying (s .table) .next .arena) (s .control .mv .from) ≡ header (s .arena) (s .control .mv .from)
       → Kept s t (Copied (rise (s .control .mv .copied))) (copied s copying (s .table) .next)
@@ -174,7 +174,7 @@ module _ {X : Type 0} (s : State) (g : Account) (t : Step) (I : Inv X s g) where
 
     by-stage : (n : Stage) → stageOf (v .stage) ≡ n → D (advance s n)
     by-stage idle e = refuses {n = 9} (omega arith)
-    by-stage firstBarrier e = beyond (startCopying s) (keeps k (omega arith) (omega arith) same (starts e))
+    by-stage firstBarrier e = beyond (startCopying s) (keeps k (omega arith) (omega arith) same (starts e (count-at s g I firstBarrier e)))
     by-stage copying e = copying-word e
     by-stage secondBarrier e = beyond (settle s) (settled e)
     by-stage thirdBarrier e = beyond (giveBack s) (keeps k (omega arith) (omega arith) same (gives-back e))

@@ -16,3 +16,4 @@ pub mod Ends
 pub mod Admits
 pub mod Always
 pub mod Did
+pub mod MoveCounts
