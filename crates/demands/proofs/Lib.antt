@@ -17,3 +17,4 @@ pub mod Admits
 pub mod Always
 pub mod Did
 pub mod MoveCounts
+pub mod SwapCounts

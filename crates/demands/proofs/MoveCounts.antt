@@ -39,7 +39,7 @@ record MovesTold (begun committed aborted : ℕ) (v : Move) (l : Log) : Type 0 w
 abbrev ToldIn : State → Log → Type 0
 ToldIn s l = MovesTold (s .control .begun) (s .control .committed) (s .control .aborted) (s .control .mv) l
 
-answered-other : (t : Step) (x : Answer) (l : Log) (n : ℕ) → number x ≢ n → answered n (line t x ∷ l) ≡ answered n l
+pub answered-other : (t : Step) (x : Answer) (l : Log) (n : ℕ) → number x ≢ n → answered n (line t x ∷ l) ≡ answered n l
 answered-other t x l n h = rw (ne-eqb (number x) n h) (omega arith)
 
 no-work : (t : Step) (x : Answer) (l : Log) → number x ≢ 21 → (23 ≤ number x → number x ≤ 27 → ⊥) → workingSteps (line t x ∷ l) ≡ workingSteps l
