@@ -39,7 +39,7 @@ use Rattle.demands.proofs.Stages.{Idle, Early, idle-of}
 use Rattle.demands.proofs.Lists.{all-get}
 use Rattle.demands.proofs.Inv.{PhaseOK, rests, ready, waits, ReadyOK, WaitingOK, Inv, early}
 use Rattle.demands.proofs.Blocks.{entry-range, home-real}
-use Rattle.demands.proofs.RowLaws.{one-early, row-in}
+use Rattle.demands.proofs.RowLaws.{one-early, phase-rests, row-in}
 use Rattle.demands.proofs.Entries.{stored-head}
 use Rattle.demands.proofs.Finishes.{home-head, spot-of, read-right}
 use Rattle.demands.proofs.Copying.{count-at, from-word}
@@ -47,7 +47,7 @@ use Rattle.demands.proofs.Admits.{side-word}
 
 -- a client's row r before its step, the answer x, and the row r′ then; `Right` is what is said of the answer that ends an access
 pub data Turn (Right : Answer → Type 0) (r : Row) (x : Answer) (r′ : Row) : Type 0 where
-  handles : number x ≡ 30 → r′ .swaps ≡ r .swaps → r′ .phase ≡ r .phase → Turn Right r x r′
+  handles : number x ≡ 30 → r′ .swaps ≡ r .swaps → r′ .phase ≡ Resting → Turn Right r x r′
   readies : {c : ℕ} {y : Access} → number x ≡ 31 → r′ .swaps ≡ r .swaps → r′ .phase ≡ Ready c y → Turn Right r x r′
   waits-on : {c : ℕ} {y : Access} → number x ≡ 32 → r′ .swaps ≡ r .swaps → r′ .phase ≡ Waiting c y → Turn Right r x r′
   swaps : {c d : ℕ} {y : Access} → number x ≡ 33 → r′ .swaps ≡ suc (r .swaps) → r .phase ≡ Waiting c y → r′ .phase ≡ Ready d y → Turn Right r x r′
@@ -234,22 +234,25 @@ module _ {X : Type 0} (s : State) (g : Account) (t : Step) (I : Inv X s g) where
     going e (ready {c = c} {x = y} W) b = finishing c y e W
     going e (waits W) b = swapping e (W .owes)
 
-    handled : (r : Row) → r .swaps ≡ ownRow s t .swaps → r .phase ≡ ownRow s t .phase → D (outcome (Done 0) (withRow s (t .who) r))
+    handled : (r : Row) → r .swaps ≡ ownRow s t .swaps → r .phase ≡ Resting → D (outcome (Done 0) (withRow s (t .who) r))
     handled r a b = acts {x = Done 0} (w .0) (w .1) (omega arith) (λ _ _. refl) (handles refl a b)
+
+  resting : busy (ownRow s t .phase) ≡ false → ownRow s t .phase ≡ Resting
+  resting b = phase-rests (row-in I t .phase) b .0
 
   by-name : (n : Name) → (ofKeeper n ≡ true → t .who ≡ 0) → (ofClient n ≡ true → (0 < t .who) × (t .who ≤ 8)) → D (refuse (refusals n s t) (refused s) (effect n s t))
   by-name ADMIT k w = unless (refusals ADMIT s t) (effect ADMIT s t) tt (admitting (k refl))
   by-name RETIRE k w = unless (refusals RETIRE s t) (effect RETIRE s t) tt (λ _. keeps (k refl) (omega arith) (omega arith) same (retires _ _))
   by-name BEGIN k w = unless (refusals BEGIN s t) (effect BEGIN s t) tt (beginning (k refl))
   by-name ADVANCE k w = unless (refusals ADVANCE s t) (effect ADVANCE s t) tt (λ _. by-stage (k refl) (stageOf (v .stage)) refl)
-  by-name ATTACH k w = unless (refusals ATTACH s t) (effect ATTACH s t) tt (λ _. handled (w refl) _ refl refl)
-  by-name DETACH k w = unless (refusals DETACH s t) (effect DETACH s t) tt (λ _. handled (w refl) _ refl refl)
-  by-name OPEN k w = unless (refusals OPEN s t) (effect OPEN s t) tt (λ _. handled (w refl) _ refl refl)
-  by-name DROP k w = unless (refusals DROP s t) (effect DROP s t) tt (λ _. handled (w refl) _ refl refl)
+  by-name ATTACH k w = unless (refusals ATTACH s t) (effect ATTACH s t) tt (λ p. handled (w refl) _ refl (row-in I t .detached (p .0) .rests))
+  by-name DETACH k w = unless (refusals DETACH s t) (effect DETACH s t) tt (λ p. handled (w refl) _ refl (resting (p .1 .0)))
+  by-name OPEN k w = unless (refusals OPEN s t) (effect OPEN s t) tt (λ p. handled (w refl) _ refl (resting (p .1 .1 .1 .0)))
+  by-name DROP k w = unless (refusals DROP s t) (effect DROP s t) tt (λ p. handled (w refl) _ refl (resting (p .1 .1 .0)))
   by-name READ k w = unless (refusals READ s t) (effect READ s t) tt (λ _. loading (w refl) (Read (t .a) (t .b)))
   by-name WRITE k w = unless (refusals WRITE s t) (effect WRITE s t) tt (λ _. loading (w refl) (Write (t .a) (t .b) (t .v)))
   by-name GO k w = unless (refusals GO s t) (effect GO s t) tt (λ p. going (w refl) refl (row-in I t .phase) (p .1 .0))
-  by-name REST k w = unless (refusals REST s t) (effect REST s t) tt (λ _. handled (w refl) _ refl refl)
+  by-name REST k w = unless (refusals REST s t) (effect REST s t) tt (λ p. handled (w refl) _ refl (resting (p .1 .0)))
   by-name UNKNOWN k w = refuses {n = 4} (omega arith)
   by-name NOBODY k w = refuses {n = 3} (omega arith)
 

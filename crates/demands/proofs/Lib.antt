@@ -18,3 +18,4 @@ pub mod Always
 pub mod Did
 pub mod MoveCounts
 pub mod SwapCounts
+pub mod Accesses

@@ -8,7 +8,7 @@ use native.Mathlib.Omega.{arith}
 use lib.ListN.{length, getD, set, replicate}
 use lib.Seq.{getD-set-same, getD-set-other}
 use borrow.Author.Tests.{eq-eqb, ne-eqb}
-use Rattle.model.specs.Choice.{_or_, any, all}
+use Rattle.model.specs.Choice.{_and_, _or_, any, all}
 use Rattle.model.proofs.Choice.{same-or-not, clash, and-parts}
 use Rattle.demands.specs.Log.{update}
 
@@ -26,6 +26,10 @@ getD-fresh (suc n) (suc i) x = getD-fresh n i x
 or-parts : (p q : Bool) → (p or q) ≡ false → (p ≡ false) × (q ≡ false)
 or-parts true q e = clash true refl e
 or-parts false q e = (refl, e)
+
+pub and-false : (p : Bool) → (p and false) ≡ false
+and-false true = refl
+and-false false = refl
 
 module _ {A : Type 0} where
   -- after a store: the new value there, the old one elsewhere

@@ -21,7 +21,7 @@ use Rattle.model.specs.Steps.{Step, ownRow}
 use Rattle.model.proofs.Choice.{same-or-not}
 use Rattle.demands.specs.Log.{line, Log, Account, after, log, said, answered, answeredTo}
 use Rattle.demands.proofs.Stages.{Early}
-use Rattle.demands.proofs.Lists.{getD-fresh, set-cases}
+use Rattle.demands.proofs.Lists.{getD-fresh, set-cases, and-false}
 use Rattle.demands.proofs.Inv.{Inv}
 use Rattle.demands.proofs.RowLaws.{cleared-get}
 use Rattle.demands.proofs.Did.{Turn, handles, readies, waits-on, swaps, ends, SameRows, same, cleared, Did, refuses, stays, keeps, acts, Kept, admits, retires, begins, starts, copies, fills, commits, calls-off, gives-back, did}
@@ -67,10 +67,6 @@ turn-swaps {x = x} (ends a b f _ _ _) = rw (ne-eqb (number x) 33 (omega arith)) 
 record SwapsTold (k : List Row) (l : Log) : Type 0 where
   pub slots : (i : ℕ) → getD k i freshRow .swaps ≡ answeredTo (suc i) 33 l
   pub sum : total swapsOf k ≡ answered 33 l
-
-and-false : (p : Bool) → (p and false) ≡ false
-and-false true = refl
-and-false false = refl
 
 unswapped : {k k′ : List Row} {l : Log} (t : Step) (x : Answer) → SameRows k k′ → number x ≢ 33 → SwapsTold k l → SwapsTold k′ (line t x ∷ l)
 unswapped {l = l} t x r n m = record {
