@@ -73,9 +73,10 @@ did-since {t = t} e (refuses {n = n} b) h = record { since = λ i. rw (lt-leb 20
 did-since {t = t} e (stays z) h = unheard t _ same z h
 did-since {t = t} e (keeps {x = x} z _ _ r _) h = unheard t x r z h
 did-since {s = s} {t = t} {l = l} e (acts {x = x} {r = r} p q b _ u) h = record {
-    since = set-cases (λ j (y : Row). Since (y .phase) (ownAnswers (suc j) (line t x ∷ l))) (s .table) (pred (t .who)) r freshRow (omega arith)
+  since = set-cases (λ j (y : Row). Since (y .phase) (ownAnswers (suc j) (line t x ∷ l))) (s .table) (pred (t .who)) r freshRow (omega arith)
       (rw (eq-eqb (t .who) (suc (pred (t .who))) (omega arith), le-leb 20 (number x) (omega arith)) (turn-since u (h .since (pred (t .who)))))
-      (λ j n. rw (ne-eqb (t .who) (suc j) (λ z. n (omega arith))) (h .since j)) }
+      (λ j n. rw (ne-eqb (t .who) (suc j) (λ z. n (omega arith))) (h .since j));
+}
 
 did-ended : {Right : Answer → Type 0} {s : State} {t : Step} {o : Outcome} {l : Log} → Did Right s t o → 34 ≤ number (o .answer) → Phases (s .table) l → Heard (ownAnswers (t .who) l)
 did-ended (refuses b) n h = absurd (omega arith)

@@ -187,8 +187,8 @@ module _ {X : Type 0} (s : State) (g : Account) (t : Step) (I : Inv X s g) where
         let run = lowest-free (s .control .map) (cells (t .b)) (real (t .b) hk .some) (eqb-false c none (p .1 .1 .1 .0)) in
         let absent = eqb-true (entry (s .control .dir) (t .a)) none (not-false (eqb (entry (s .control .dir) (t .a)) none) (p .1 .1 .0)) in
         keeps {x = Admitted c} k (omega arith) (omega arith) same (admits (t .a) (t .b) c
-          (λ l. let z = home-real (I .core) (early l) in
-            side-word (I .core) (t .a) (t .b) c (ltb-false 255 (t .a) (p .0)) hk absent run (early l) 0 (omega arith) .0))
+        (λ l. let z = home-real (I .core) (early l) in
+        side-word (I .core) (t .a) (t .b) c (ltb-false 255 (t .a) (p .0)) hk absent run (early l) 0 (omega arith) .0))
 
     beginning : Passed (refusals BEGIN s t) → D (effect BEGIN s t)
     beginning p =
@@ -197,7 +197,7 @@ module _ {X : Type 0} (s : State) (g : Account) (t : Step) (I : Inv X s g) where
         let more : s .control .begun ≢ 4294967295 = eqb-false (s .control .begun) 4294967295 (p .1 .1 .1 .1 .0) in
         let d : ℕ = lowestRun (s .control .map) (cellsAt (s .arena) c) in
         keeps {x = Begun d} k (omega arith) (omega arith) cleared (begins c d (idle-of v (p .1 .0))
-          (rise-is (s .control .begun) 4294967295 (omega (arith, I .small)) (omega arith)) (stored-head (I .core) (t .a) c refl (entry-range (I .core) (t .a) present) (flagged c)))
+        (rise-is (s .control .begun) 4294967295 (omega (arith, I .small)) (omega arith)) (stored-head (I .core) (t .a) c refl (entry-range (I .core) (t .a) present) (flagged c)))
 
   module _ (w : (0 < t .who) × (t .who ≤ 8)) where
     seat : pred (t .who) < 8

@@ -19,3 +19,4 @@ pub mod Did
 pub mod MoveCounts
 pub mod SwapCounts
 pub mod Accesses
+pub mod LastWritten

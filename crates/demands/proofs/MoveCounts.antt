@@ -50,9 +50,11 @@ no-work t x l h n =
 -- a line that says nothing of moves
 silent : {b c a : ℕ} {v : Move} {l : Log} (t : Step) (x : Answer) → number x ≢ 21 → (23 ≤ number x → number x ≤ 27 → ⊥) → MovesTold b c a v l → MovesTold b c a v (line t x ∷ l)
 silent {v = v} {l = l} t x h n m = record {
-    counts = let k = m .counts in
+  counts = let k = m .counts in
       (k .0 ∙ sym (answered-other t x l 21 h), k .1 ∙ sym (answered-other t x l 25 (λ e. n (omega arith) (omega arith))), k .2 ∙ sym (answered-other t x l 26 (λ e. n (omega arith) (omega arith))));
-    work = rw (no-work t x l h n) (m .work); meter = rw (ne-eqb (number x) 21 h) (m .meter) }
+  work = rw (no-work t x l h n) (m .work);
+  meter = rw (ne-eqb (number x) 21 h) (m .meter);
+}
 
 -- what the stage says
 work-at : {b c a : ℕ} {v : Move} {l : Log} → MovesTold b c a v l → (g : Stage) → stageOf (v .stage) ≡ g → Work g (v .copied) (workingSteps l)

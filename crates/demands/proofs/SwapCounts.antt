@@ -70,8 +70,9 @@ record SwapsTold (k : List Row) (l : Log) : Type 0 where
 
 unswapped : {k k′ : List Row} {l : Log} (t : Step) (x : Answer) → SameRows k k′ → number x ≢ 33 → SwapsTold k l → SwapsTold k′ (line t x ∷ l)
 unswapped {l = l} t x r n m = record {
-    slots = λ i. same-swaps r i ∙ m .slots i ∙ sym (rw (ne-eqb (number x) 33 n, and-false (eqb (t .who) (suc i))) (omega arith));
-    sum = same-total r ∙ m .sum ∙ sym (answered-other t x l 33 n) }
+  slots = λ i. same-swaps r i ∙ m .slots i ∙ sym (rw (ne-eqb (number x) 33 n, and-false (eqb (t .who) (suc i))) (omega arith));
+  sum = same-total r ∙ m .sum ∙ sym (answered-other t x l 33 n);
+}
 
 did-told : {Right : Answer → Type 0} {s : State} {t : Step} {o : Outcome} {l : Log} → length (s .table) ≡ 8 → Did Right s t o → SwapsTold (s .table) l
     → SwapsTold (o .next .table) (line t (o .answer) ∷ l)
@@ -79,10 +80,11 @@ did-told {t = t} e (refuses {n = n} b) m = unswapped t (Refused n) same (omega a
 did-told {t = t} e (stays _) m = unswapped t BarrierOpen same (omega arith) m
 did-told {t = t} e (keeps {x = x} _ _ b r _) m = unswapped t x r (omega arith) m
 did-told {s = s} {t = t} {l = l} e (acts {x = x} {r = r} p q _ _ u) m = record {
-    slots = set-cases (λ j (y : Row). y .swaps ≡ answeredTo (suc j) 33 (line t x ∷ l)) (s .table) (pred (t .who)) r freshRow (omega arith)
+  slots = set-cases (λ j (y : Row). y .swaps ≡ answeredTo (suc j) 33 (line t x ∷ l)) (s .table) (pred (t .who)) r freshRow (omega arith)
       (rw (eq-eqb (t .who) (suc (pred (t .who))) (omega arith)) (turn-swaps u ∙ omega (arith, m .slots (pred (t .who)))))
       (λ j n. rw (ne-eqb (t .who) (suc j) (λ z. n (omega arith))) (m .slots j ∙ omega arith));
-    sum = let z = total-set (s .table) (pred (t .who)) r freshRow (omega arith) in omega (arith, turn-swaps u, m .sum) }
+  sum = let z = total-set (s .table) (pred (t .who)) r freshRow (omega arith) in omega (arith, turn-swaps u, m .sum);
+}
 
 told : (l : List Step) → SwapsTold (after l .table) (log l)
 told [] = record { slots = λ i. ap swapsOf (getD-fresh 8 i freshRow); sum = refl }
@@ -114,7 +116,8 @@ did-swapped {s = s} {t = t} e (acts {x = x} {r = r} p q _ h u) m =
     record {
       off = omega (arith, m .off);
       gone = λ l n. ⊎-elim (λ (y : number x ≡ 33). let one33 : swapped x ≡ 1 = rw (eq-eqb (number x) 33 y) refl in omega (arith, m .off))
-        (λ (y : number x ≢ 33). omega (arith, m .gone l (λ k. n (h l y ∙ k)))) (same-or-not (number x) 33) }
+          (λ (y : number x ≢ 33). omega (arith, m .gone l (λ k. n (h l y ∙ k)))) (same-or-not (number x) 33);
+    }
 
 swapped-away : (l : List Step) → Swapped (after l)
 swapped-away [] = record { off = omega arith; gone = λ z. absurd z }

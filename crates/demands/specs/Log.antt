@@ -9,7 +9,7 @@ use Rattle.model.specs.declared.Answer.{Answer}
 use Rattle.model.specs.declared.Answer.the-variants.{Refused, Admitted, Begun, BarrierOpen, CopyingStarts, Copied, Committed, CalledOff, GivenBack, Done, ReadyAt, WaitsOn, SwapWon, SwapLost, Got, Written}
 use Rattle.model.specs.Choice.{pick, _and_, _or_, one, total}
 use Rattle.model.specs.Records.{none}
-use Rattle.model.specs.Rows.{holdOf}
+use Rattle.model.specs.Rows.{holdOf, wordOf}
 use Rattle.model.specs.State.{State}
 use Rattle.model.specs.Answers.{number}
 use Rattle.model.specs.Fresh.{fresh}
@@ -134,6 +134,11 @@ told n g t Written = doneBy n g t
 abbrev pub said : Log → Account
 said [] = newAccount
 said (x ∷ l) = told (nameOf (x .step)) (said l) (x .step) (x .answer)
+
+-- the last value written to the word of an access
+abbrev pub lastFor : Account → Pending → ℕ
+lastFor g noAccess = 0
+lastFor g (accessTo m x) = g .lastWritten m (wordOf x)
 
 -- how many lines have the answer n; how many of party who's lines
 abbrev pub answered : ℕ → Log → ℕ
