@@ -6,6 +6,5 @@ pub mod Refusals
 pub mod Answered
 pub mod Effects
 pub mod Says
-pub mod Stages
 pub mod Readings
 pub mod Fresh

@@ -5,7 +5,7 @@ use mathlib.Core.Bool.{Bool, true, false, not}
 use mathlib.Core.List.{List, [], _∷_}
 use Prim.Native.Nat.{ℕ, zero, suc, _+_, _≤_, _<_}
 use native.Mathlib.Omega.{arith}
-use lib.Dec.{eqb}
+use lib.Dec.{T, eqb}
 use lib.ListN.{length, getD}
 use Rattle.model.specs.declared.Access.{Access}
 use Rattle.model.specs.declared.Phase.{Phase}
@@ -17,13 +17,19 @@ use Rattle.model.specs.Records.{none, header, plain, flagged, targetOf, 
 use Rattle.model.specs.CellMap.{used}
 use Rattle.model.specs.Rows.{holdOf, wordOf, busy, hold}
 use Rattle.model.specs.State.{Stage, idle, firstBarrier, copying, secondBarrier, thirdBarrier, stageOf, entry, State}
-use Rattle.model.specs.Rules.{isCell, isEarly, recordRight, R1, replicaRight, earlyRight, lateRight, R2, blocksOver, cellRight, R3, headerRight, R4, numbersRight, R5, detachedRight, holdRight, accessRight, phaseRight, passedRight, rowRight, R6, R7, flagUp, waits, waitsElsewhere, swapsRight, R8, firstFalse, firstBroken}
+use Rattle.model.specs.Rules.{isCell, isEarly, isLate, recordRight, R1, replicaRight, earlyRight, lateRight, R2, blocksOver, cellRight, R3, headerRight, R4, numbersRight, R5, detachedRight, holdRight, accessRight, phaseRight, passedRight, rowRight, R6, R7, flagUp, waits, waitsElsewhere, swapsRight, R8, firstFalse, firstBroken}
 use Rattle.model.proofs.Choice.{clash}
-use Rattle.model.proofs.Says.{Says, says-eq, says-lt, says-le, says-is, says-isnt, says-yes, says-as, says-not, says-and, says-or, says-when, says-every, All, Somewhere, says-all, says-none, says-any}
-use Rattle.model.proofs.Stages.{Early, Late, says-early, says-late}
+use Rattle.model.proofs.Says.{Says, says-eq, says-lt, says-le, says-is, says-isnt, says-holds, says-yes, says-as, says-not, says-and, says-or, says-when, says-every, All, Somewhere, says-all, says-none, says-any}
 
 abbrev pub Present : List ℕ → ℕ → Type 0
 Present dir m = entry dir m ≢ none
+
+-- "its first three stages"; "the third barrier"
+abbrev pub Early : Move → Type 0
+Early v = T (isEarly v)
+
+abbrev pub Late : Move → Type 0
+Late v = T (isLate v)
 
 says-cell : (c : ℕ) → Says (isCell c) (c ≢ none)
 says-cell c = says-not (says-eq c none)
@@ -68,8 +74,8 @@ pub record LateRight (dir : List ℕ) (v : Move) (arena : List ℕ) : Type 0 whe
 
 pub record MoveRight (dir : List ℕ) (v : Move) (arena : List ℕ) : Type 0 where
   pub stage : v .stage < 5
-  pub early : Early (stageOf (v .stage)) → EarlyRight dir v arena
-  pub late : Late (stageOf (v .stage)) → LateRight dir v arena
+  pub early : Early v → EarlyRight dir v arena
+  pub late : Late v → LateRight dir v arena
 
 pub says-early-right : (dir : List ℕ) (v : Move) (arena : List ℕ) → Says (earlyRight dir v arena) (EarlyRight dir v arena)
 unfolding earlyRight replicaRight
@@ -95,8 +101,8 @@ unfolding R2
 says-R2 dir v arena =
     says-as (λ k. record { stage = k .0; early = k .1 .0; late = k .1 .1 }) (λ r. (r .stage, (r .early, r .late)))
     (says-and (says-lt _ _)
-    (says-and (says-when (says-early (stageOf (v .stage))) (says-early-right dir v arena))
-    (says-when (says-late (stageOf (v .stage))) (says-late-right dir v arena))))
+    (says-and (says-when (says-holds (isEarly v)) (says-early-right dir v arena))
+    (says-when (says-holds (isLate v)) (says-late-right dir v arena))))
 
 -- R3 "Used cells are exactly those of present records and of the move's other block; none lies in two."
 abbrev pub CellsRight : List ℕ → List ℕ → Move → List ℕ → Type 0
@@ -110,25 +116,25 @@ says-R3 dir map v arena = says-every 1024 (cellRight dir map v arena) _ (λ x. s
 -- record at cell c
 pub data HeaderRight (v : Move) (m c h : ℕ) : Type 0 where
   own-header : h ≡ plain c → HeaderRight v m c h
-  flag-header : Early (stageOf (v .stage)) → m ≡ v .meter → h ≡ flagged c → HeaderRight v m c h
+  flag-header : Early v → m ≡ v .meter → h ≡ flagged c → HeaderRight v m c h
 
 -- .. "In the third barrier the old header is 2 × new."
 pub record HeadersRight (dir : List ℕ) (v : Move) (arena : List ℕ) : Type 0 where
   pub entries : (m : ℕ) → m < 256 → Present dir m → HeaderRight v m (entry dir m) (header arena (entry dir m))
-  pub old : Late (stageOf (v .stage)) → header arena (v .from) ≡ plain (v .target)
+  pub old : Late v → header arena (v .from) ≡ plain (v .target)
 
 pub says-header : (dir : List ℕ) (v : Move) (arena : List ℕ) (m : ℕ)
     → Says (headerRight dir v arena m) (Present dir m → HeaderRight v m (entry dir m) (header arena (entry dir m)))
 unfolding headerRight
 says-header dir v arena m =
     says-when (says-cell (entry dir m))
-    (says-as to from (says-or (says-eq _ _) (says-and (says-early (stageOf (v .stage))) (says-and (says-eq _ _) (says-eq _ _)))))
+    (says-as to from (says-or (says-eq _ _) (says-and (says-holds (isEarly v)) (says-and (says-eq _ _) (says-eq _ _)))))
   where
-    to : {c h : ℕ} → (h ≡ plain c) ⊎ (Early (stageOf (v .stage)) × ((m ≡ v .meter) × (h ≡ flagged c))) → HeaderRight v m c h
+    to : {c h : ℕ} → (h ≡ plain c) ⊎ (Early v × ((m ≡ v .meter) × (h ≡ flagged c))) → HeaderRight v m c h
     to (inl e) = own-header e
     to (inr k) = flag-header (k .0) (k .1 .0) (k .1 .1)
 
-    from : {c h : ℕ} → HeaderRight v m c h → (h ≡ plain c) ⊎ (Early (stageOf (v .stage)) × ((m ≡ v .meter) × (h ≡ flagged c)))
+    from : {c h : ℕ} → HeaderRight v m c h → (h ≡ plain c) ⊎ (Early v × ((m ≡ v .meter) × (h ≡ flagged c)))
     from (own-header e) = inl e
     from (flag-header l n e) = inr (l, (n, e))
 
@@ -136,7 +142,7 @@ pub says-R4 : (dir : List ℕ) (v : Move) (arena : List ℕ) → Says (R4 dir v 
 unfolding R4
 says-R4 dir v arena =
     says-as (λ k. record { entries = k .0; old = k .1 }) (λ r. (r .entries, r .old))
-    (says-and (says-every 256 (headerRight dir v arena) _ (says-header dir v arena)) (says-when (says-late (stageOf (v .stage))) (says-eq _ _)))
+    (says-and (says-every 256 (headerRight dir v arena) _ (says-header dir v arena)) (says-when (says-holds (isLate v)) (says-eq _ _)))
 
 -- R5 "Words copied is below the record's words while copying; at the other stages, and with no move in hand, the move's numbers are
 -- as said above." : n is the record's words
@@ -181,7 +187,7 @@ pub record Detached (r : Row) : Type 0 where
 pub data HoldRight (dir : List ℕ) (v : Move) (h : ℕ) : Type 0 where
   empty : h ≡ none → HoldRight dir v h
   present : (m : ℕ) → m < length dir → entry dir m ≡ h → HoldRight dir v h
-  old : Late (stageOf (v .stage)) → h ≡ v .from → HoldRight dir v h
+  old : Late v → h ≡ v .from → HoldRight dir v h
 
 -- .. "A busy row's hold is filled, its word within the payload, a read's value 0;" ..
 pub record AccessRight (arena : List ℕ) (r : Row) (x : Access) : Type 0 where
@@ -207,7 +213,7 @@ pub record RowRight (dir : List ℕ) (v : Move) (arena : List ℕ) (r : Row) : T
   pub detached : r .attached ≡ false → Detached r
   pub holds : All (HoldRight dir v) (r .holds)
   pub phase : PhaseRight arena r (r .phase)
-  pub passed : Late (stageOf (v .stage)) → r .passed ≡ true → All (λ h. h ≢ v .from) (r .holds)
+  pub passed : Late v → r .passed ≡ true → All (λ h. h ≢ v .from) (r .holds)
 
 abbrev pub RowsRight : List ℕ → Move → List ℕ → List Row → Type 0
 RowsRight dir v arena table = All (RowRight dir v arena) table
@@ -233,14 +239,14 @@ unfolding holdRight
 says-hold dir v h =
     says-as to from
     (says-or (says-eq h none)
-    (says-or (says-any (eqb h) (λ c. c ≡ h) (says-qe h) none dir) (says-and (says-late (stageOf (v .stage))) (says-eq h (v .from)))))
+    (says-or (says-any (eqb h) (λ c. c ≡ h) (says-qe h) none dir) (says-and (says-holds (isLate v)) (says-eq h (v .from)))))
   where
-    to : (h ≡ none) ⊎ (Somewhere (λ c. c ≡ h) none dir ⊎ (Late (stageOf (v .stage)) × (h ≡ v .from))) → HoldRight dir v h
+    to : (h ≡ none) ⊎ (Somewhere (λ c. c ≡ h) none dir ⊎ (Late v × (h ≡ v .from))) → HoldRight dir v h
     to (inl e) = empty e
     to (inr (inl k)) = present (k .at) (k .low) (k .holds)
     to (inr (inr k)) = old (k .0) (k .1)
 
-    from : HoldRight dir v h → (h ≡ none) ⊎ (Somewhere (λ c. c ≡ h) none dir ⊎ (Late (stageOf (v .stage)) × (h ≡ v .from)))
+    from : HoldRight dir v h → (h ≡ none) ⊎ (Somewhere (λ c. c ≡ h) none dir ⊎ (Late v × (h ≡ v .from)))
     from (empty e) = inl e
     from (present m l e) = inr (inl (record { at = m; low = l; holds = e }))
     from (old l e) = inr (inr (l, e))
@@ -260,10 +266,10 @@ says-phase arena r (Waiting c x) =
     says-as (λ k. record { access = k .0; on = k .1 }) (λ p. (p .access, p .on)) (says-and (says-access arena r x) (says-eq _ _))
 
 says-passed : (v : Move) (r : Row)
-    → Says (passedRight v r) (Late (stageOf (v .stage)) → r .passed ≡ true → All (λ h. h ≢ v .from) (r .holds))
+    → Says (passedRight v r) (Late v → r .passed ≡ true → All (λ h. h ≢ v .from) (r .holds))
 unfolding passedRight
 says-passed v r =
-    says-when (says-late (stageOf (v .stage)))
+    says-when (says-holds (isLate v))
     (says-when (says-is (r .passed)) (says-none (eqb (v .from)) (λ h. h ≡ v .from) (says-qe (v .from)) (r .holds)))
 
 pub says-row : (dir : List ℕ) (v : Move) (arena : List ℕ) (r : Row) → Says (rowRight dir v arena r) (RowRight dir v arena r)

@@ -7,7 +7,7 @@ use mathlib.Core.List.{List, [], _∷_}
 use Prim.Native.Nat.{ℕ, zero, suc, _+_, _≤_, _<_}
 use native.Mathlib.Omega.{arith}
 use native.Mathlib.Numerals.{add-one}
-use lib.Dec.{eqb, ltb, leb}
+use lib.Dec.{T, eqb, ltb, leb}
 use lib.ListN.{length, getD, replicate}
 use borrow.Author.Tests.{eqb-true, ltb-true, leb-true, eq-eqb, lt-ltb, le-leb, not-true}
 use Rattle.model.specs.Choice.{_and_, _or_, _⇒_, one, every, all, any}
@@ -37,6 +37,10 @@ says-yes = record { holds = λ _. tt; test = λ _. refl }
 
 pub says-no : Says false ⊥
 says-no = record { holds = λ e. clash false e refl; test = λ z. absurd z }
+
+pub says-holds : (b : Bool) → Says b (T b)
+says-holds true = says-yes
+says-holds false = says-no
 
 -- the same in other words
 pub says-as : {b : Bool} {P Q : Type 0} → (P → Q) → (Q → P) → Says b P → Says b Q
