@@ -7,4 +7,5 @@ pub mod Answered
 pub mod Effects
 pub mod Says
 pub mod Readings
+pub mod Covers
 pub mod Fresh
