@@ -1,3 +1,4 @@
 pub mod Stages
 pub mod Owners
 pub mod Inv
+pub mod Cover

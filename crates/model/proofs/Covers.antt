@@ -12,7 +12,7 @@ use Rattle.model.specs.declared.Move.{Move}
 use Rattle.model.specs.Choice.{_and_, total}
 use Rattle.model.specs.Records.{none, cellsAt}
 use Rattle.model.specs.State.{Stage, idle, firstBarrier, copying, secondBarrier, thirdBarrier, stageOf}
-use Rattle.model.specs.Rules.{isCell, early, late, covers, recordCovers, otherCovers}
+use Rattle.model.specs.Rules.{isCell, early, late, covers, recordCovers, otherCovers, blocksOver}
 use Rattle.model.proofs.Choice.{by-test}
 use Rattle.model.proofs.Says.{Says, says-le, says-lt, says-and, one-le, one-holds, one-yes, one-no}
 use Rattle.model.proofs.Readings.{Early, Late}
@@ -141,3 +141,8 @@ module _ (v : Move) (arena : List ℕ) (x : ℕ) where
   other-le =
       other-by (λ (n : ℕ). n ≤ 1) (λ _. covers-le (v .target) (cellsAt arena (v .from)) x) (λ _. covers-le (v .from) (cellsAt arena (v .from)) x)
       (λ _ _. omega arith)
+
+-- R3's number of blocks over a cell
+pub blocks-are : (dir : List ℕ) (v : Move) (arena : List ℕ) (x : ℕ) → blocksOver dir v arena x ≡ total (recordCovers arena x) dir + otherOver v arena x
+unfolding blocksOver
+blocks-are dir v arena x = refl

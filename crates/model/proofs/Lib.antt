@@ -9,3 +9,4 @@ pub mod Says
 pub mod Readings
 pub mod Covers
 pub mod Fresh
+pub mod Sizes
