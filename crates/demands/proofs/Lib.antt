@@ -1,5 +1,12 @@
 pub mod Stages
+pub mod Lists
 pub mod Owners
+pub mod Words
 pub mod Inv
 pub mod Cover
 pub mod Sound
+pub mod Blocks
+pub mod Entries
+pub mod RowLaws
+pub mod Clients
+pub mod Swaps

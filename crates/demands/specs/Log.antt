@@ -9,6 +9,7 @@ use Rattle.model.specs.declared.Answer.{Answer}
 use Rattle.model.specs.declared.Answer.the-variants.{Refused, Admitted, Begun, BarrierOpen, CopyingStarts, Copied, Committed, CalledOff, GivenBack, Done, ReadyAt, WaitsOn, SwapWon, SwapLost, Got, Written}
 use Rattle.model.specs.Choice.{pick}
 use Rattle.model.specs.Records.{none}
+use Rattle.model.specs.Rows.{holdOf}
 use Rattle.model.specs.State.{State}
 use Rattle.model.specs.Fresh.{fresh}
 use Rattle.model.specs.Steps.{Step, Name, ADMIT, RETIRE, BEGIN, ADVANCE, ATTACH, DETACH, OPEN, DROP, READ, WRITE, GO, REST, UNKNOWN, NOBODY, nameOf, act}
@@ -79,7 +80,7 @@ admits g m k = record { lastWritten = update (g .lastWritten) m (λ w. 0); kind 
 
 -- READ and WRITE: the access begins
 abbrev pub begins : Account → Step → Access → Account
-begins g t x = withClient g t (withPending (clientOf g t) (accessTo (clientOf g t .opened (t .a)) x))
+begins g t x = withClient g t (withPending (clientOf g t) (accessTo (clientOf g t .opened (holdOf x)) x))
 
 -- GO: the access is done; a write is the last one to its word
 abbrev pub written : (ℕ → ℕ → ℕ) → ℕ → Access → ℕ → ℕ → ℕ

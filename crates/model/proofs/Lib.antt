@@ -10,3 +10,5 @@ pub mod Readings
 pub mod Covers
 pub mod Fresh
 pub mod Sizes
+pub mod Records
+pub mod Counts

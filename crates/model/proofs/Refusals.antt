@@ -25,6 +25,14 @@ pub by-refusals : {A : Type 0} (P : A → Type 0) (l : List Refusal) (f : ℕ �
 by-refusals P [] f o r h = h tt
 by-refusals P (g ∷ l) f o r h = by-test P (g .1) (λ e. r .0) (λ e. by-refusals P l f o (r .1) (λ k. h (e, k)))
 
+-- what holds whatever number is given
+each-line : (Q : ℕ → Type 0) (l : List Refusal) → ((n : ℕ) → Q n) → Each Q l
+each-line Q [] h = tt
+each-line Q (g ∷ l) h = (h (g .0), each-line Q l h)
+
+pub unless-refused : {A : Type 0} (P : A → Type 0) (l : List Refusal) (f : ℕ → A) (o : A) → ((n : ℕ) → P (f n)) → (Passed l → P o) → P (refuse l f o)
+unless-refused P l f o r h = by-refusals P l f o (each-line (λ n. P (f n)) l r) h
+
 -- what holds of every number that a test lets pass holds of each line, where the test, computed, lets all its numbers pass
 abbrev pub numbers : (ℕ → Bool) → List Refusal → Bool
 numbers f [] = true
