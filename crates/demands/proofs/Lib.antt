@@ -3,10 +3,11 @@ pub mod Lists
 pub mod Owners
 pub mod Words
 pub mod Inv
-pub mod Cover
-pub mod Sound
 pub mod Blocks
 pub mod Entries
 pub mod RowLaws
 pub mod Clients
 pub mod Swaps
+pub mod Cover
+pub mod Sound
+pub mod Kept
