@@ -78,12 +78,14 @@ module _ {X : Type 0} (s : State) (g : Account) (t : Step) (I : Inv X s g) (seat
   with-hold : (i c m : ℕ) → i ≤ 3 → not (ownRow s t .attached) ≡ false → busy (ownRow s t .phase) ≡ false → HoldOK (s .control .dir) (s .control .mv) c m
       → (Late (s .control .mv) → c ≢ s .control .mv .from) → RowIn X s g (withHolds (ownRow s t) (set (ownRow s t .holds) i c)) (withHold (clientOf g t) i m)
   with-hold i c m fit a b ok away = record {
-      four = length-set (ownRow s t .holds) i c ∙ R .four;
-      holds = set-both (HoldOK (s .control .dir) (s .control .mv)) (ownRow s t .holds) (clientOf g t .opened) i c m none (omega (arith, R .four)) ok (R .holds);
-      detached = λ e. clash (ownRow s t .attached) (not-false (ownRow s t .attached) a) e;
-      passed = λ l p. set-cases (λ _ (x : ℕ). x ≢ s .control .mv .from) (ownRow s t .holds) i c none (omega (arith, R .four)) (away l) (λ j _. R .passed l p j);
-      le = R .le; lt = R .lt;
-      phase = let e = phase-rests (R .phase) b in subst⁻¹ (PhaseOK X _ _ _ _ _ _ _) (e .0) (rests (e .1)) }
+    four = length-set (ownRow s t .holds) i c ∙ R .four;
+    holds = set-both (HoldOK (s .control .dir) (s .control .mv)) (ownRow s t .holds) (clientOf g t .opened) i c m none (omega (arith, R .four)) ok (R .holds);
+    detached = λ e. clash (ownRow s t .attached) (not-false (ownRow s t .attached) a) e;
+    passed = λ l p. set-cases (λ _ (x : ℕ). x ≢ s .control .mv .from) (ownRow s t .holds) i c none (omega (arith, R .four)) (away l) (λ j _. R .passed l p j);
+    le = R .le;
+    lt = R .lt;
+    phase = let e = phase-rests (R .phase) b in subst⁻¹ (PhaseOK X _ _ _ _ _ _ _) (e .0) (rests (e .1));
+  }
 
   pub open-inv : Good X OPEN g t (refuse (refusals OPEN s t) (refused s) (effect OPEN s t))
   open-inv = steps OPEN (λ k.
@@ -103,8 +105,10 @@ module _ {X : Type 0} (s : State) (g : Account) (t : Step) (I : Inv X s g) (seat
         holds = λ i. rw (rest-hold (s .arena) (ownRow s t .holds) i) (forward (I .core) (R .holds i) .0);
         detached = λ e. clash (ownRow s t .attached) (not-false (ownRow s t .attached) (k .0)) e;
         passed = λ l p i. rw (rest-hold (s .arena) (ownRow s t .holds) i) (forward (I .core) (R .holds i) .1 l);
-        le = R .le; lt = R .lt;
-        phase = let e = phase-rests (R .phase) (k .1 .0) in subst⁻¹ (PhaseOK X _ _ _ _ _ _ _) (e .0) (rests (e .1)) }))
+        le = R .le;
+        lt = R .lt;
+        phase = let e = phase-rests (R .phase) (k .1 .0) in subst⁻¹ (PhaseOK X _ _ _ _ _ _ _) (e .0) (rests (e .1));
+      }))
 
   -- READ and WRITE
   module _ (n : Name) (x : Access) (says : doneBy n g t ≡ begins g t x) (k : Passed (accessRefusals (s .arena) (ownRow s t) (holdOf x) (wordOf x))) where
@@ -116,14 +120,22 @@ module _ {X : Type 0} (s : State) (g : Account) (t : Step) (I : Inv X s g) (seat
 
     asked : (p : Phase) → Asked (g .kind) (withPhase (ownRow s t) p) q x
     asked p = record {
-        pending = refl; filled = filled;
-        fits = rw (held-kind (I .core) (R .holds (holdOf x)) filled) at (leb-false (payloadAt (s .arena) (hold (ownRow s t) (holdOf x))) (wordOf x) (k .1 .1 .1 .1 .0)) }
+      pending = refl;
+      filled = filled;
+      fits = rw (held-kind (I .core) (R .holds (holdOf x)) filled) at (leb-false (payloadAt (s .arena) (hold (ownRow s t) (holdOf x))) (wordOf x) (k .1 .1 .1 .1 .0));
+    }
 
     with-phase : (p : Phase) → PhaseOK X (s .control .dir) (s .control .mv) (g .kind) (header (s .arena) (s .control .mv .from)) (s .control .begun) (withPhase (ownRow s t) p) q p
         → RowIn X s g (withPhase (ownRow s t) p) q
     with-phase p ok = record {
-        four = R .four; holds = R .holds; detached = λ e. clash (ownRow s t .attached) (not-false (ownRow s t .attached) (k .1 .0)) e;
-        passed = R .passed; le = R .le; lt = R .lt; phase = ok }
+      four = R .four;
+      holds = R .holds;
+      detached = λ e. clash (ownRow s t .attached) (not-false (ownRow s t .attached) (k .1 .0)) e;
+      passed = R .passed;
+      le = R .le;
+      lt = R .lt;
+      phase = ok;
+    }
 
     abbrev Next : Stepped → Type 0
     Next o = Inv X (seated s t o .next) (told n g t (o .answer))
@@ -135,11 +147,11 @@ module _ {X : Type 0} (s : State) (g : Account) (t : Step) (I : Inv X s g) (seat
         by-test Next (flagOf (header (s .arena) (hold (ownRow s t) (holdOf x))))
         (λ y. absurd (omega (arith, eqb-true (header (s .arena) (hold (ownRow s t) (holdOf x)) % 2) 1 y)))
         (λ _. rw says (seat-row I t seat _ q (with-phase (Ready (header (s .arena) (hold (ownRow s t) (holdOf x)) / 2) x)
-          (ready (record { asked = asked _; place = at-entry (p ∙ sym back); newest = λ _. p ∙ sym back; away = λ _ k _ z. f k .0 (sym back ∙ z) })))))
+        (ready (record { asked = asked _; place = at-entry (p ∙ sym back); newest = λ _. p ∙ sym back; away = λ _ k _ z. f k .0 (sym back ∙ z) })))))
     by-cell (flagged-cell e p u l o) =
         by-test Next (flagOf (header (s .arena) (hold (ownRow s t) (holdOf x))))
         (λ _. rw says (seat-row I t seat _ q (with-phase (Waiting (hold (ownRow s t) (holdOf x)) x)
-          (waits (record { asked = asked _; held = refl; owes = R .lt (l, rw (← o) e); elsewhere = λ _ z. absurd (z o) })))))
+        (waits (record { asked = asked _; held = refl; owes = R .lt (l, rw (← o) e); elsewhere = λ _ z. absurd (z o) })))))
         (λ y. absurd (eqb-false (header (s .arena) (hold (ownRow s t) (holdOf x)) % 2) 1 y (omega arith)))
 
     access-inv : Next (loadHeader (s .arena) (ownRow s t) x)

@@ -22,8 +22,13 @@ pub carry-entry : {X : Type 0} {v v′ : Move} {arena arena′ : List ℕ} {val 
 carry-entry {kind = kind} {m = m} E o h same =
     let z : Real (kind m) = real (kind m) (E .kinded) in
     record {
-      kinded = E .kinded; range = E .range; label = same 1 (omega arith) (omega arith) ∙ E .label; owns = o; head = h;
-      vals = λ x w p. same (2 + w) (omega arith) (omega arith) ∙ E .vals x w p }
+      kinded = E .kinded;
+      range = E .range;
+      label = same 1 (omega arith) (omega arith) ∙ E .label;
+      owns = o;
+      head = h;
+      vals = λ x w p. same (2 + w) (omega arith) (omega arith) ∙ E .vals x w p;
+    }
 
 -- the header of meter a's record, at cell c, becomes w
 module _ {X : Type 0} {dir map : List ℕ} {v : Move} {arena : List ℕ} {val : ℕ → ℕ → ℕ} {kind own : ℕ → ℕ} (C : Core X dir map v arena val kind own)

@@ -9,5 +9,7 @@ pub mod RowLaws
 pub mod Clients
 pub mod Swaps
 pub mod Cover
-pub mod Sound
+pub mod FromRules
+pub mod ToRules
 pub mod Kept
+pub mod Runs

@@ -54,11 +54,17 @@ module _ {X : Type 0} {dir : List ℕ} {v : Move} {kind : ℕ → ℕ} {h begun 
 pub reflag-row : {X : Type 0} {dir : List ℕ} {v : Move} {kind : ℕ → ℕ} {h h′ begun : ℕ} {r : Row} {q : Client} → (Flag v h′ → Flag v h)
     → RowOK X dir v kind h begun r q → RowOK X dir v kind h′ begun r q
 reflag-row f R = record {
-    four = R .four; holds = R .holds; detached = R .detached; passed = R .passed; le = R .le; lt = λ k. R .lt (f k);
-    phase = carry-phase (λ e. e)
+  four = R .four;
+  holds = R .holds;
+  detached = R .detached;
+  passed = R .passed;
+  le = R .le;
+  lt = λ k. R .lt (f k);
+  phase = carry-phase (λ e. e)
       (λ c x W. record { asked = W .asked; place = W .place; newest = W .newest; away = λ y k. W .away y (f k) })
       (λ c x W. record { asked = W .asked; held = W .held; owes = W .owes; elsewhere = λ k. W .elsewhere (f k) })
-      (R .phase) }
+      (R .phase);
+}
 
 module _ {X : Type 0} {s : State} {g : Account} (I : Inv X s g) where
   pub begun-early : Early (s .control .mv) → 0 < s .control .begun
@@ -71,18 +77,33 @@ module _ {X : Type 0} {s : State} {g : Account} (I : Inv X s g) where
   pub empty-row : (r : Row) → ((i : ℕ) → hold r i ≡ none) → length (r .holds) ≡ 4 → r .passed ≡ true → r .phase ≡ Resting → r .swaps ≤ s .control .begun
       → (Flag (s .control .mv) (header (s .arena) (s .control .mv .from)) → r .swaps < s .control .begun) → RowIn X s g r newClient
   empty-row r n f p e le lt = record {
-      four = f; holds = λ i. empty (n i); detached = λ _. record { passed = p; empty = n; rests = e };
-      passed = λ l _ i z. omega (arith, n i, side-lt (I .core) (late l)); le = le; lt = lt;
-      phase = subst⁻¹ (PhaseOK X _ _ _ _ _ r newClient) e (rests refl) }
+    four = f;
+    holds = λ i. empty (n i);
+    detached = λ _. record { passed = p; empty = n; rests = e };
+    passed = λ l _ i z. omega (arith, n i, side-lt (I .core) (late l));
+    le = le;
+    lt = lt;
+    phase = subst⁻¹ (PhaseOK X _ _ _ _ _ r newClient) e (rests refl);
+  }
 
   -- a client's own row, with or without a new word from the log
   module _ (t : Step) (seat : pred (t .who) < 8) (r : Row) where
     pub seat-row : (q : Client) → RowIn X s g r q → Inv X (withRow s (t .who) r) (withClient g t q)
     seat-row q ok = record {
-        own = I .own; core = I .core; eight = length-set (s .table) (pred (t .who)) r ∙ I .eight; r7 = I .r7; small = I .small;
-        rows = set-both (RowIn X s g) (s .table) (g .clients) (pred (t .who)) r q freshRow (omega (arith, I .eight)) ok (I .rows) }
+      own = I .own;
+      core = I .core;
+      eight = length-set (s .table) (pred (t .who)) r ∙ I .eight;
+      r7 = I .r7;
+      small = I .small;
+      rows = set-both (RowIn X s g) (s .table) (g .clients) (pred (t .who)) r q freshRow (omega (arith, I .eight)) ok (I .rows);
+    }
 
     pub reseat-row : RowIn X s g r (clientOf g t) → Inv X (withRow s (t .who) r) g
     reseat-row ok = record {
-        own = I .own; core = I .core; eight = length-set (s .table) (pred (t .who)) r ∙ I .eight; r7 = I .r7; small = I .small;
-        rows = set-cases (λ j x. RowIn X s g x (g .clients j)) (s .table) (pred (t .who)) r freshRow (omega (arith, I .eight)) ok (λ j _. I .rows j) }
+      own = I .own;
+      core = I .core;
+      eight = length-set (s .table) (pred (t .who)) r ∙ I .eight;
+      r7 = I .r7;
+      small = I .small;
+      rows = set-cases (λ j x. RowIn X s g x (g .clients j)) (s .table) (pred (t .who)) r freshRow (omega (arith, I .eight)) ok (λ j _. I .rows j);
+    }

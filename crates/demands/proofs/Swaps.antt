@@ -44,12 +44,21 @@ module _ {X : Type 0} {dir map : List ℕ} {v : Move} {arena : List ℕ} {val : 
       λ j b. stored-else C (v .meter) (v .from) (S .home) (S .inside) (plain (v .from)) other (v .target) (cells (kind (v .meter))) j (S .owns) b
       (λ e. absurd (omega (arith, home-lt C (early l)))) in
       record {
-        entries256 = C .entries256; words8192 = length-set arena (place (v .from) 0) (plain (v .from)) ∙ C .words8192; is-map = C .is-map;
+        entries256 = C .entries256;
+        words8192 = length-set arena (place (v .from) 0) (plain (v .from)) ∙ C .words8192;
+        is-map = C .is-map;
         entries = λ m n. stored-entry C (v .meter) (v .from) (S .home) (S .inside) (plain (v .from)) m n (C .entries m n .owns) (own-head refl) (λ _ k. k);
-        mapped = C .mapped; owned = C .owned; idle = C .idle; sides = C .sides; count = C .count;
-        old-head = λ y. absurd (not-both v l y); old-label = λ y. absurd (not-both v l y);
-        replica-head = λ y p. same 0 (omega arith) ∙ C .replica-head y p; replica-label = λ y p. same 1 (omega arith) ∙ C .replica-label y p;
-        replica = λ _ f. absurd (no-flag f) }
+        mapped = C .mapped;
+        owned = C .owned;
+        idle = C .idle;
+        sides = C .sides;
+        count = C .count;
+        old-head = λ y. absurd (not-both v l y);
+        old-label = λ y. absurd (not-both v l y);
+        replica-head = λ y p. same 0 (omega arith) ∙ C .replica-head y p;
+        replica-label = λ y p. same 1 (omega arith) ∙ C .replica-label y p;
+        replica = λ _ f. absurd (no-flag f);
+      }
 
 module _ {X : Type 0} (s : State) (g : Account) (t : Step) (I : Inv X s g) (seat : pred (t .who) < 8) (att : ownRow s t .attached ≡ true)
     (c : ℕ) (x : Access) (W : WaitingOK (s .control .mv) (g .kind) (header (s .arena) (s .control .mv .from)) (s .control .begun) (ownRow s t) (clientOf g t) c x) where
@@ -63,11 +72,19 @@ module _ {X : Type 0} (s : State) (g : Account) (t : Step) (I : Inv X s g) (seat
   at-entry-now h d e f =
       let up : rise (ownRow s t .swaps) ≡ suc (ownRow s t .swaps) = rise-is (ownRow s t .swaps) (s .control .begun) (W .owes) (I .small) in
       record {
-        four = R .four; holds = R .holds; detached = λ z. clash (ownRow s t .attached) att z; passed = R .passed;
-        le = omega (arith, W .owes); lt = λ k. let b = f k in omega (arith, W .elsewhere (b .0) (b .2));
+        four = R .four;
+        holds = R .holds;
+        detached = λ z. clash (ownRow s t .attached) att z;
+        passed = R .passed;
+        le = omega (arith, W .owes);
+        lt = λ k. let b = f k in omega (arith, W .elsewhere (b .0) (b .2));
         phase = ready (record {
           asked = record { pending = W .asked .pending; fits = W .asked .fits; filled = W .asked .filled };
-          place = at-entry e; newest = λ _. e; away = λ _ k _. f k .1 }) }
+          place = at-entry e;
+          newest = λ _. e;
+          away = λ _ k _. f k .1;
+        });
+      }
 
   abbrev Next : Stepped → Type 0
   Next o = Inv X (seated s t o .next) (told GO g t (o .answer))
@@ -79,16 +96,21 @@ module _ {X : Type 0} (s : State) (g : Account) (t : Step) (I : Inv X s g) (seat
       by-test Next (eqb (header (s .arena) c) (flagged c))
       (λ y. absurd (omega (arith, eqb-true (header (s .arena) c) (flagged c) y)))
       (λ _. reseat-row I t seat _
-        (at-entry-now (header (s .arena) (s .control .mv .from)) (targetOf (header (s .arena) c)) (p ∙ sym back) (λ k. (k, λ z. f k .0 (sym back ∙ z), f k .1))))
+      (at-entry-now (header (s .arena) (s .control .mv .from)) (targetOf (header (s .arena) c)) (p ∙ sym back) (λ k. (k, λ z. f k .0 (sym back ∙ z), f k .1))))
   by-cell (flagged-cell e p u l o) =
       by-test Next (eqb (header (s .arena) c) (flagged c))
       (λ _. rw o (record {
-        own = I .own; core = called-off (I .core) l; eight = length-set (s .table) (pred (t .who)) _ ∙ I .eight; r7 = I .r7; small = I .small;
+        own = I .own;
+        core = called-off (I .core) l;
+        eight = length-set (s .table) (pred (t .who)) _ ∙ I .eight;
+        r7 = I .r7;
+        small = I .small;
         rows = set-cases
-          (λ j y. RowOK X (s .control .dir) (s .control .mv) (g .kind) (header (set (s .arena) (place (s .control .mv .from) 0) (plain (s .control .mv .from))) (s .control .mv .from)) (s .control .begun) y (g .clients j))
-          (s .table) (pred (t .who)) _ freshRow (omega (arith, I .eight))
-          (at-entry-now (header (set (s .arena) (place (s .control .mv .from) 0) (plain (s .control .mv .from))) (s .control .mv .from)) (s .control .mv .from) (rw (← o) p) (λ k. absurd (no-flag (I .core) l k)))
-          (λ j _. reflag-row (λ k. absurd (no-flag (I .core) l k)) (I .rows j)) }))
+            (λ j y. RowOK X (s .control .dir) (s .control .mv) (g .kind) (header (set (s .arena) (place (s .control .mv .from) 0) (plain (s .control .mv .from))) (s .control .mv .from)) (s .control .begun) y (g .clients j))
+            (s .table) (pred (t .who)) _ freshRow (omega (arith, I .eight))
+            (at-entry-now (header (set (s .arena) (place (s .control .mv .from) 0) (plain (s .control .mv .from))) (s .control .mv .from)) (s .control .mv .from) (rw (← o) p) (λ k. absurd (no-flag (I .core) l k)))
+            (λ j _. reflag-row (λ k. absurd (no-flag (I .core) l k)) (I .rows j));
+      }))
       (λ y. absurd (eqb-false (header (s .arena) c) (flagged c) y e))
 
   pub swap-inv : Next (swap (s .arena) (ownRow s t) c x)
