@@ -90,7 +90,8 @@ module _ (dir : List ℕ) (v : Move) (arena : List ℕ) where
     owner-mapped x h = by (owner-is x)
       where
         some : (i : ℕ) → i ≢ none → used map x ≢ 0 → used map x ≡ bitOf i
-        some i p q = by-test (λ (n : ℕ). used map x ≡ n) (eqb i none) (λ e. absurd (p (eqb-true i none e))) (λ _. omega (arith, used-lt map x))
+        some i p q =
+            by-test (λ (n : ℕ). used map x ≡ n) (eqb i none) (λ e. absurd (p (eqb-true i none e))) (λ _. omega (arith, used-lt map x))
 
         by : {n : ℕ} → Owner x n → used map x ≡ bitOf n
         by (beyond p) = absurd (omega arith)

@@ -19,10 +19,10 @@ use Rattle.model.specs.Rows.{holdOf, hold, freshRow}
 use Rattle.model.specs.State.{Stage, idle, firstBarrier, copying, secondBarrier, thirdBarrier, stageOf, inHand, noMove, entry, State}
 use Rattle.model.specs.Choice.{every}
 use Rattle.model.specs.Rules.{isEarly, early as early-stage, late as late-stage, covers, flagUp}
-use Rattle.model.proofs.Choice.{by-test, same-or-not}
+use Rattle.model.proofs.Choice.{same-or-not}
 use Rattle.model.proofs.ByKind.{real}
 use Rattle.model.proofs.Says.{says-eq, says-holds, says-not, says-when, says-every, all-get, one-yes}
-use Rattle.model.proofs.Readings.{Sound, NumbersAt, HeaderRight, own-header, flag-header, HoldRight, hold-empty, hold-present, hold-old, AccessRight, PhaseRight, RowRight, SwapsAt, Owing, owed-words, says-flag}
+use Rattle.model.proofs.Readings.{Sound, NumbersAt, HeaderRight, own-header, flag-header, HoldRight, hold-empty, hold-present, hold-old, AccessRight, PhaseRight, RowRight, SwapsAt, Owing, owed-words, waiting-owes, says-flag}
 use Rattle.model.proofs.Covers.{record-in, record-is, covers-in, covers-is, otherOver, other-early, other-late, other-by}
 use Rattle.model.proofs.Fresh.{fresh-row, fresh-swaps}
 use Rattle.model.proofs.Sizes.{Sizes, FourHolds}
@@ -37,6 +37,9 @@ use Rattle.demands.proofs.Cover.{owner, Owner, beyond, nobody, the-othe
 abbrev pub kindIn : State → ℕ → ℕ
 kindIn s m = kindOf (label (s .arena) (entry (s .control .dir) m))
 
+abbrev pub rowIn : State → ℕ → Row
+rowIn s i = getD (s .table) i freshRow
+
 abbrev pub pendingOf : (ℕ → ℕ) → Phase → Pending
 pendingOf opened Resting = noAccess
 pendingOf opened (Ready c x) = accessTo (opened (holdOf x)) x
@@ -45,11 +48,16 @@ pendingOf opened (Waiting c x) = accessTo (opened (holdOf x)) x
 abbrev pub openedBy : List ℕ → Row → ℕ → ℕ
 openedBy arena r i = meterOf (label arena (hold r i))
 
-abbrev pub clientIn : List ℕ → Row → Client
-clientIn arena r = record { opened = openedBy arena r; pending = pendingOf (openedBy arena r) (r .phase) }
+abbrev pub clientIn : List ℕ → Row → Phase → Client
+clientIn arena r p = record { opened = openedBy arena r; pending = pendingOf (openedBy arena r) p }
 
 abbrev pub accountOf : State → Account
-accountOf s = record { lastWritten = λ m w. 0; kind = kindIn s; clients = λ i. clientIn (s .arena) (getD (s .table) i freshRow) }
+accountOf s =
+    record {
+      lastWritten = λ m w. 0;
+      kind = kindIn s;
+      clients = λ i. clientIn (s .arena) (rowIn s i) (rowIn s i .phase);
+    }
 
 -- a move at stage 0 with no numbers is none
 no-move : (v : Move) (n : ℕ) (g : Stage) → T (not (inHand g)) → NumbersAt g v n → v .stage ≡ 0 → v ≡ noMove
@@ -64,7 +72,8 @@ unfolding every
 idle-zero = says-every 5 _ _ (λ n. says-when (says-holds (not (inHand (stageOf n)))) (says-eq n 0)) .holds refl
 
 -- R5, with the moved record's words read from its entry
-count-of : (v : Move) (z z′ : ℕ) (g : Stage) → (T (early-stage g) → z ≡ z′) → (T (late-stage g) → z ≡ z′) → NumbersAt g v z → Count g z′ (v .copied)
+count-of : (v : Move) (z z′ : ℕ) (g : Stage) → (T (early-stage g) → z ≡ z′) → (T (late-stage g) → z ≡ z′) → NumbersAt g v z
+    → Count g z′ (v .copied)
 count-of v z z′ idle a b r = tt
 count-of v z z′ firstBarrier a b r = r
 count-of v z z′ copying a b r = let e = a tt in omega arith
@@ -175,7 +184,9 @@ module _ (s : State) (Z : Sizes s) (S : Sound s) where
         owned = λ x. block-of x (owner-is dir v arena x);
         idle = λ i. no-move v (wordsAt arena (v .from)) (stageOf (v .stage)) i (S .r5) (idle-zero (v .stage) (S .r2 .stage) i);
         sides = sides-of;
-        count = count-of v (wordsAt arena (v .from)) (words (kindIn s (v .meter))) (stageOf (v .stage)) (λ l. from-words (early l)) (λ l. from-words (late l)) (S .r5);
+        count =
+            count-of v (wordsAt arena (v .from)) (words (kindIn s (v .meter))) (stageOf (v .stage)) (λ l. from-words (early l))
+            (λ l. from-words (late l)) (S .r5);
         old-head = S .r4 .old;
         old-label = λ l. from-label (late l) ∙ label-is (v .meter) (S .r2 .late l .present);
         replica-head = λ l. S .r2 .early l .replica-header;
@@ -194,7 +205,8 @@ module _ (s : State) (Z : Sizes s) (S : Sound s) where
           here (omega (arith, entry-lt m n)) (ap (entry dir) k ∙ e)
   hold-of h (hold-old l e) =
       let n = S .r2 .late l .present in
-      was l e (ap (λ (c : ℕ). meterOf (label arena c)) e ∙ ap meterOf (from-label (late l)) ∙ S .r1 (v .meter) (meter-lt (v .meter) n) n .meter)
+      let k = S .r1 (v .meter) (meter-lt (v .meter) n) n .meter in
+      was l e (ap (λ (c : ℕ). meterOf (label arena c)) e ∙ ap meterOf (from-label (late l)) ∙ k)
 
   place-of : {h m c : ℕ} → HoldOK dir v h m → h ≢ none → (c ≡ h) ⊎ (c ≡ targetOf (header arena h)) → Place dir h m c
   place-of k n (inl e) = at-hold (sym e)
@@ -205,51 +217,67 @@ module _ (s : State) (Z : Sizes s) (S : Sound s) where
       by (flagged-cell p _ _ _ _) = at-hold (sym (e ∙ omega arith))
 
   row-of : (r : Row) → FourHolds r → RowRight dir v arena r → SwapsAt (flagUp v arena) (v .from) (s .control .begun) r
-      → RowOK ⊥ dir v (kindIn s) (header arena (v .from)) (s .control .begun) r (clientIn arena r)
-  row-of r f R W = record {
-    four = f;
-    holds = held;
-    detached = λ e. record { passed = R .detached e .passed; empty = λ i. all-get _ (r .holds) i (R .detached e .holds) refl; rests = R .detached e .rests };
-    passed = λ l p i. all-get _ (r .holds) i (R .passed l p) (λ z. omega (arith, S .r2 .late l .within));
-    le = O .most;
-    lt = λ f. O .flagged (says-flag v arena .test f);
-    phase = by-phase (r .phase) (R .phase) (owed-words (flagUp v arena) (v .from) (s .control .begun) (r .swaps) (r .phase) W);
-  }
+      → RowOK ⊥ dir v (kindIn s) (header arena (v .from)) (s .control .begun) r (clientIn arena r (r .phase))
+  row-of r f R W =
+      let o = owed-words (flagUp v arena) (v .from) (s .control .begun) (r .swaps) (r .phase) W in
+      record {
+        four = f;
+        holds = held;
+        detached = λ e.
+            let D = R .detached e in
+            record { passed = D .passed; empty = λ i. all-get _ (r .holds) i (D .holds) refl; rests = D .rests };
+        passed = λ l p i. all-get _ (r .holds) i (R .passed l p) (λ z. omega (arith, S .r2 .late l .within));
+        le = o .most;
+        lt = λ f. o .flagged (says-flag v arena .test f);
+        phase = by-phase (r .phase) (R .phase) o;
+      }
     where
-      O : Owing (flagUp v arena) (v .from) (s .control .begun) (r .swaps) (r .phase)
-      O = owed-words (flagUp v arena) (v .from) (s .control .begun) (r .swaps) (r .phase) W
-
       held : (i : ℕ) → HoldOK dir v (hold r i) (openedBy arena r i)
       held i = hold-of (hold r i) (all-get (HoldRight dir v) (r .holds) i (R .holds) (hold-empty refl))
 
-      asked : (x : Access) → AccessRight arena r x → Asked (kindIn s) r (record { opened = openedBy arena r; pending = accessTo (openedBy arena r (holdOf x)) x }) x
-      asked x A = record { pending = refl; fits = rw (held-kind core-of (held (holdOf x)) (A .filled)) at (A .word); filled = A .filled }
+      asked : (c : ℕ) (x : Access) → AccessRight arena r x → Asked (kindIn s) r (clientIn arena r (Ready c x)) x
+      asked c x A = record { pending = refl; fits = rw (held-kind core-of (held (holdOf x)) (A .filled)) at (A .word); filled = A .filled }
 
       by-phase : (p : Phase) → PhaseRight arena r p → Owing (flagUp v arena) (v .from) (s .control .begun) (r .swaps) p
-          → PhaseOK ⊥ dir v (kindIn s) (header arena (v .from)) (s .control .begun) r (record { opened = openedBy arena r; pending = pendingOf (openedBy arena r) p }) p
+          → PhaseOK ⊥ dir v (kindIn s) (header arena (v .from)) (s .control .begun) r (clientIn arena r p) p
       by-phase Resting P o = rests refl
-      by-phase (Ready c x) P o = ready (record {
-        asked = asked x (P .access);
-        place = place-of (held (holdOf x)) (P .access .filled) (P .at);
-        newest = λ y. absurd y;
-        away = λ y. absurd y;
-      })
-      by-phase (Waiting c x) P o = waits (record {
-        asked = asked x (P .access);
-        held = P .on;
-        owes = by-test (λ (n : ℕ). r .swaps < s .control .begun) (flagUp v arena) {x = 0} {y = 0} (o .flagged) (λ e. o .waiting e refl);
-        elsewhere = λ f n. omega (arith, o .elsewhere (says-flag v arena .test f) (says-not (says-eq c (v .from)) .test n));
-      })
+      by-phase (Ready c x) P o =
+          ready
+          (record {
+            asked = asked c x (P .access);
+            place = place-of (held (holdOf x)) (P .access .filled) (P .at);
+            newest = λ y. absurd y;
+            away = λ y. absurd y;
+          })
+      by-phase (Waiting c x) P o =
+          waits
+          (record {
+            asked = asked c x (P .access);
+            held = P .on;
+            owes = waiting-owes (flagUp v arena) o refl;
+            elsewhere = λ f n. omega (arith, o .elsewhere (says-flag v arena .test f) (says-not (says-eq c (v .from)) .test n));
+          })
+
+  -- a row past the table's end is a fresh one, and breaks no rule either
+  row-right : (i : ℕ) → RowRight dir v arena (rowIn s i)
+  row-right i =
+      all-get (RowRight dir v arena) (s .table) i (S .r6) (fresh-row dir v arena (λ l z. omega (arith, S .r2 .late l .within)))
+
+  swaps-right : (i : ℕ) → SwapsAt (flagUp v arena) (v .from) (s .control .begun) (rowIn s i)
+  swaps-right i =
+      all-get (SwapsAt (flagUp v arena) (v .from) (s .control .begun)) (s .table) i (S .r8)
+      (fresh-swaps (flagUp v arena) (v .from) (s .control .begun) (λ e. begun-some (says-flag v arena .holds e .0)))
+    where
+      begun-some : T (isEarly v) → 0 < s .control .begun
+      begun-some l = omega (arith, S .r7, one-yes (says-holds (isEarly v)) l)
 
   pub inv-of : Inv ⊥ s (accountOf s)
-  inv-of = record {
-    own = own;
-    core = core-of;
-    eight = Z .rows;
-    rows = λ i. row-of (getD (s .table) i freshRow) (all-get FourHolds (s .table) i (Z .holds) refl)
-        (all-get (RowRight dir v arena) (s .table) i (S .r6) (fresh-row dir v arena (λ l z. omega (arith, S .r2 .late l .within))))
-        (all-get (SwapsAt (flagUp v arena) (v .from) (s .control .begun)) (s .table) i (S .r8)
-        (fresh-swaps (flagUp v arena) (v .from) (s .control .begun) (λ e. omega (arith, S .r7, one-yes (says-holds (isEarly v)) (says-flag v arena .holds e .0)))));
-    r7 = S .r7;
-    small = Z .begun;
-  }
+  inv-of =
+      record {
+        own = own;
+        core = core-of;
+        eight = Z .rows;
+        rows = λ i. row-of (rowIn s i) (all-get FourHolds (s .table) i (Z .holds) refl) (row-right i) (swaps-right i);
+        r7 = S .r7;
+        small = Z .begun;
+      }

@@ -31,7 +31,8 @@ use Rattle.demands.proofs.Blocks.{Cell, unflagged, flagged-cell, meter-
 
 -- a number that is no stage counts as none in hand
 stage-lt : (v : Move) → (T (not (inHand (stageOf (v .stage)))) → v ≡ noMove) → v .stage < 5
-stage-lt v f = ⊎-elim (λ h. h) (λ (h : 5 ≤ v .stage). absurd (omega (arith, ap (λ (w : Move). w .stage) (f (none-in-hand h))))) (order (v .stage) 5)
+stage-lt v f =
+    ⊎-elim (λ h. h) (λ (h : 5 ≤ v .stage). absurd (omega (arith, ap (λ (w : Move). w .stage) (f (none-in-hand h))))) (order (v .stage) 5)
   where
     none-in-hand : 5 ≤ v .stage → T (not (inHand (stageOf (v .stage))))
     none-in-hand h =
@@ -39,8 +40,8 @@ stage-lt v f = ⊎-elim (λ h. h) (λ (h : 5 ≤ v .stage). absurd (omega (arith
         (List·getD-eq-default (idle ∷ firstBarrier ∷ copying ∷ secondBarrier ∷ thirdBarrier ∷ []) idle h) tt
 
 -- R5, with the moved record's words read from its old block
-numbers-of : (v : Move) (z z′ : ℕ) (g : Stage) → (T (early-stage g) → z ≡ z′) → (T (late-stage g) → z ≡ z′) → (T (not (inHand g)) → v ≡ noMove)
-    → Count g z′ (v .copied) → NumbersAt g v z
+numbers-of : (v : Move) (z z′ : ℕ) (g : Stage) → (T (early-stage g) → z ≡ z′) → (T (late-stage g) → z ≡ z′)
+    → (T (not (inHand g)) → v ≡ noMove) → Count g z′ (v .copied) → NumbersAt g v z
 numbers-of v z z′ idle a b n c =
     let e = n tt in
     record {
@@ -133,8 +134,9 @@ module _ {X : Type 0} (s : State) (g : Account) (I : Inv X s g) where
   owned-once x {i} e (in-entry n p q) =
       let k = entry-cells i n in
       let b = meter-lt C i n in
-      let one = total-one (recordCovers arena x) none dir i (omega (arith, C .entries256)) (λ j _ ne. entry-off x j (λ z. ne (sym z ∙ e))) in
-      omega (arith, one, record-in arena x (entry dir i) (record { present = n; low = p; high = omega arith }), other-off x (λ z. omega arith))
+      let only = total-one (recordCovers arena x) none dir i (omega (arith, C .entries256)) (λ j _ ne. entry-off x j (λ z. ne (sym z ∙ e))) in
+      let here = record-in arena x (entry dir i) (record { present = n; low = p; high = omega arith }) in
+      omega (arith, only, here, other-off x (λ z. omega arith))
   owned-once x e (in-other b o p q) = omega (arith, entries-off x (λ m h z. omega arith), other-on x b p q)
 
   rule3 : CellsRight dir (s .control .map) v arena
@@ -160,8 +162,8 @@ module _ {X : Type 0} (s : State) (g : Account) (I : Inv X s g) where
 
   rule5 : NumbersAt (stageOf (v .stage)) v (wordsAt arena (v .from))
   rule5 =
-      numbers-of v (wordsAt arena (v .from)) (words (g .kind (v .meter))) (stageOf (v .stage)) (λ l. from-words (early l)) (λ l. from-words (late l))
-      (C .idle) (C .count)
+      numbers-of v (wordsAt arena (v .from)) (words (g .kind (v .meter))) (stageOf (v .stage)) (λ l. from-words (early l))
+      (λ l. from-words (late l)) (C .idle) (C .count)
 
   -- the rows
   abbrev RowOf : Row → Client → Type 0

@@ -138,10 +138,11 @@ module _ (v : Move) (arena : List ℕ) (x : ℕ) where
 
   pub other-le : otherOver ≤ 1
   other-le =
-      other-by (λ (n : ℕ). n ≤ 1) (λ _. covers-le (v .target) (cellsAt arena (v .from)) x) (λ _. covers-le (v .from) (cellsAt arena (v .from)) x)
-      (λ _ _. omega arith)
+      other-by (λ (n : ℕ). n ≤ 1) (λ _. covers-le (v .target) (cellsAt arena (v .from)) x)
+      (λ _. covers-le (v .from) (cellsAt arena (v .from)) x) (λ _ _. omega arith)
 
 -- R3's number of blocks over a cell
-pub blocks-are : (dir : List ℕ) (v : Move) (arena : List ℕ) (x : ℕ) → blocksOver dir v arena x ≡ total (recordCovers arena x) dir + otherOver v arena x
+pub blocks-are : (dir : List ℕ) (v : Move) (arena : List ℕ) (x : ℕ)
+    → blocksOver dir v arena x ≡ total (recordCovers arena x) dir + otherOver v arena x
 unfolding blocksOver
 blocks-are dir v arena x = refl

@@ -353,6 +353,11 @@ owed-words flag from begun n p h =
     wait-owed false (Ready c x) h e w = clash false w refl
     wait-owed false (Waiting c x) h e w = omega arith
 
+-- a waiting row owes one at least
+pub waiting-owes : {from begun n : ℕ} {p : Phase} (flag : Bool) → Owing flag from begun n p → waits p ≡ true → n < begun
+waiting-owes true o w = o .flagged refl
+waiting-owes false o w = o .waiting refl w
+
 pub says-swaps : (flag : Bool) (from begun : ℕ) (r : Row) → Says (swapsRight flag from begun r) (SwapsAt flag from begun r)
 unfolding swapsRight
 says-swaps flag from begun r =
