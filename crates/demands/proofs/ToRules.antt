@@ -134,7 +134,8 @@ module _ {X : Type 0} (s : State) (g : Account) (I : Inv X s g) where
   owned-once x {i} e (in-entry n p q) =
       let k = entry-cells i n in
       let b = meter-lt C i n in
-      let only = total-one (recordCovers arena x) none dir i (omega (arith, C .entries256)) (λ j _ ne. entry-off x j (λ z. ne (sym z ∙ e))) in
+      let only =
+      total-one (recordCovers arena x) none dir i (omega (arith, C .entries256)) (λ j _ ne. entry-off x j (λ z. ne (sym z ∙ e))) in
       let here = record-in arena x (entry dir i) (record { present = n; low = p; high = omega arith }) in
       omega (arith, only, here, other-off x (λ z. omega arith))
   owned-once x e (in-other b o p q) = omega (arith, entries-off x (λ m h z. omega arith), other-on x b p q)

@@ -1,6 +1,6 @@
 -- R3 counts the blocks over a cell: laws of sums over a list, and of one block over one cell. Assumes nothing.
 use mathlib.Core.Path.{_≡_, refl}
-use mathlib.Core.Logic.{_≢_}
+use mathlib.Core.Logic.{_≢_, ⊎-elim}
 use mathlib.Core.List.{List, [], _∷_}
 use Prim.Native.Nat.{ℕ, zero, suc, _+_, _≤_, _<_}
 use native.Mathlib.Omega.{arith}
@@ -12,8 +12,8 @@ use Rattle.model.specs.Choice.{_and_, total}
 use Rattle.model.specs.Records.{none, cellsAt}
 use Rattle.model.specs.State.{Stage, idle, firstBarrier, copying, secondBarrier, thirdBarrier, stageOf}
 use Rattle.model.specs.Rules.{isCell, early, late, covers, recordCovers, otherCovers, blocksOver}
-use Rattle.model.proofs.Choice.{by-test}
-use Rattle.model.proofs.Says.{Says, says-le, says-lt, says-and, one-le, one-holds, one-yes, one-no}
+use Rattle.model.proofs.Choice.{by-test, same-or-not}
+use Rattle.model.proofs.Says.{Somewhere, Says, says-le, says-lt, says-and, one-le, one-holds, one-yes, one-no}
 use Rattle.model.proofs.Readings.{Early, Late}
 
 -- Sums over a list; d is what lies past its end
@@ -31,6 +31,17 @@ module _ {A : Type 0} (f : A → ℕ) (d : A) where
   total-two (x ∷ l) (suc j) zero p q ne = let r = total-at l j (omega arith) in omega arith
   total-two (x ∷ l) (suc j) (suc k) p q ne =
       let r = total-two l j k (omega arith) (omega arith) (λ e. ne (omega arith)) in omega arith
+
+  -- a sum that is not 0 has an element that is not
+  pub total-some : (l : List A) → total f l ≢ 0 → Somewhere (λ x. f x ≢ 0) d l
+  total-some [] n = absurd (n refl)
+  total-some (x ∷ l) n = ⊎-elim (λ (e : f x ≡ 0). later (total-some l (λ z. n (omega arith)))) first (same-or-not (f x) 0)
+    where
+      first : f x ≢ 0 → Somewhere (λ x. f x ≢ 0) d (x ∷ l)
+      first ne = record { at = 0; low = omega arith; holds = ne }
+
+      later : Somewhere (λ x. f x ≢ 0) d l → Somewhere (λ x. f x ≢ 0) d (x ∷ l)
+      later k = record { at = suc (k .at); low = omega (arith, k .low); holds = k .holds }
 
   -- all elements are 0; all but one
   pub total-zero : (l : List A) → ((k : ℕ) → k < length l → f (getD l k d) ≡ 0) → total f l ≡ 0
@@ -129,7 +140,8 @@ module _ (v : Move) (arena : List ℕ) (x : ℕ) where
   other-by P = by (stageOf (v .stage))
     where
       by : (g : Stage) → (T (early g) → P (covers (v .target) (cellsAt arena (v .from)) x))
-          → (T (late g) → P (covers (v .from) (cellsAt arena (v .from)) x)) → (¬ T (early g) → ¬ T (late g) → P 0) → P (otherCovers g v arena x)
+          → (T (late g) → P (covers (v .from) (cellsAt arena (v .from)) x)) → (¬ T (early g) → ¬ T (late g) → P 0)
+          → P (otherCovers g v arena x)
       by idle a b c = c (λ z. z) (λ z. z)
       by firstBarrier a b c = a tt
       by copying a b c = a tt

@@ -10,5 +10,6 @@ pub mod Readings
 pub mod Covers
 pub mod Fresh
 pub mod Sizes
+pub mod Wording
 pub mod Records
 pub mod Counts

@@ -334,7 +334,8 @@ owed-words flag from begun n p h =
     one-owed : (flag : Bool) (p : Phase) → n + owed flag from p ≤ begun → flag ≡ true → n < begun
     one-owed true Resting h e = omega arith
     one-owed true (Ready c x) h e = omega arith
-    one-owed true (Waiting c x) h e = by-test (λ (k : ℕ). n + k ≤ begun → n < begun) (eqb c from) (λ _ h. omega arith) (λ _ h. omega arith) h
+    one-owed true (Waiting c x) h e =
+        by-test (λ (k : ℕ). n + k ≤ begun → n < begun) (eqb c from) (λ _ h. omega arith) (λ _ h. omega arith) h
     one-owed false p h e = clash false e refl
 
     two-owed : (flag : Bool) (p : Phase) → n + owed flag from p ≤ begun → flag ≡ true → waitsElsewhere from p ≡ true → n + 1 < begun
