@@ -1,6 +1,7 @@
 -- A run tests the sizes and the rules once and equals its steps one by one, each of which tests them again: `act` keeps both.
 -- Assumes nothing.
 use mathlib.Core.Path.{_≡_, refl, sym, ap, _∙_}
+use mathlib.Core.Logic.{_≢_}
 use mathlib.Core.Bool.{true, false}
 use mathlib.Core.List.{List, [], _∷_}
 use Prim.Native.Nat.{ℕ}
@@ -11,6 +12,7 @@ use Rattle.model.specs.Steps.{Step, nameOf, act}
 use Rattle.model.specs.Rules.{firstBroken}
 use Rattle.model.specs.Calls.{wrongSize, unsound, stepCall, Ran, ran, then, oneByOne, stepsFrom, stepsOf, runSizes, runCall}
 use Rattle.model.proofs.Choice.{by-test}
+use Rattle.model.proofs.Says.{says-eq, says-not}
 use Rattle.model.proofs.Sizes.{Sizes, right-size}
 use Rattle.demands.specs.Log.{Account, told, after}
 use Rattle.demands.proofs.Inv.{Inv}
@@ -20,6 +22,10 @@ use Rattle.demands.proofs.Kept.{sound-kept, sizes-kept, after-good}
 pub sound-passes : (s : State) → firstBroken s ≡ 0 → unsound s ≡ false
 unfolding unsound
 sound-passes s e = rw e refl
+
+pub unsound-fails : (s : State) → firstBroken s ≢ 0 → unsound s ≡ true
+unfolding unsound
+unsound-fails s n = says-not (says-eq (firstBroken s) 0) .test n
 
 -- on a sound state a step is what `act` does
 pub step-is-act : (s : State) (t : Step) → Sizes s → firstBroken s ≡ 0 → stepCall s t ≡ act s t
@@ -35,10 +41,10 @@ pub run-wrong-steps : (s : State) (ws slots : List ℕ) → runSizes ws slots �
 unfolding runCall
 run-wrong-steps s ws slots e = by-test (λ (r : Ran). r ≡ ran (Refused 1) slots s) (wrongSize s) (λ _. refl) (λ _. rw e refl)
 
-pub run-unsound : (s : State) (ws slots : List ℕ) → wrongSize s ≡ false → runSizes ws slots ≡ true → unsound s ≡ true
+pub run-unsound : (s : State) (ws slots : List ℕ) → wrongSize s ≡ false → runSizes ws slots ≡ true → firstBroken s ≢ 0
     → runCall s ws slots ≡ ran (Refused 2) slots s
 unfolding runCall
-run-unsound s ws slots p q e = rw (p, q, e) refl
+run-unsound s ws slots p q n = rw (p, q, unsound-fails s n) refl
 
 -- otherwise its steps are done
 pub run-acts : (s : State) (ws slots : List ℕ) → Sizes s → runSizes ws slots ≡ true → firstBroken s ≡ 0
@@ -55,8 +61,8 @@ pub no-steps : (s : State) → Sizes s → firstBroken s ≡ 0 → runCall s [] 
 unfolding stepsFrom
 no-steps s Z e = run-acts s [] [] Z none-fit e
 
-pub no-steps-unsound : (s : State) → Sizes s → unsound s ≡ true → runCall s [] [] ≡ ran (Refused 2) [] s
-no-steps-unsound s Z e = run-unsound s [] [] (right-size s Z) none-fit e
+pub no-steps-unsound : (s : State) → Sizes s → firstBroken s ≢ 0 → runCall s [] [] ≡ ran (Refused 2) [] s
+no-steps-unsound s Z n = run-unsound s [] [] (right-size s Z) none-fit n
 
 module _ (act-inv : (s : State) (g : Account) (t : Step) → Inv ⊥ s g → Inv ⊥ (act s t .next) (told (nameOf t) g t (act s t .answer))) where
   steps-are-acts : (l : List Step) (s : State) → Sizes s → firstBroken s ≡ 0 → oneByOne stepCall s l ≡ oneByOne act s l
