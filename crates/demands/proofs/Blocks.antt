@@ -11,17 +11,24 @@ use Rattle.model.specs.Records.{none, header, plain, flagged, label, kindOf}
 use Rattle.model.specs.State.{Stage, idle, firstBarrier, copying, secondBarrier, thirdBarrier, stageOf, entry}
 use Rattle.model.specs.Rules as rules
 use Rattle.model.proofs.ByKind.{Real, real}
-use Rattle.demands.proofs.Stages.{Early, Late, not-both}
+use Rattle.demands.proofs.Stages.{first, First, Early, Late, not-both}
 use Rattle.demands.proofs.Lists.{getD-in}
 use Rattle.demands.proofs.Owners.{other, Owns}
 use Rattle.demands.proofs.Inv.{Flag, HoldOK, empty, here, was, HeadOK, own-head, flag-head, EntryOK, Sides, early, late, SidesOK, Count, Core}
 
-copied-le : (g : Stage) (z n : ℕ) → T (rules.early g) → Count g z n → n ≤ z
+pub copied-le : (g : Stage) (z n : ℕ) → T (rules.early g) → Count g z n → n ≤ z
 copied-le idle z n l k = absurd l
 copied-le firstBarrier z n l k = omega arith
 copied-le copying z n l k = omega arith
 copied-le secondBarrier z n l k = omega arith
 copied-le thirdBarrier z n l k = absurd l
+
+first-none : (g : Stage) (z n : ℕ) → T (first g) → Count g z n → n ≡ 0
+first-none idle z n l k = absurd l
+first-none firstBarrier z n l k = k
+first-none copying z n l k = absurd l
+first-none secondBarrier z n l k = absurd l
+first-none thirdBarrier z n l k = absurd l
 
 -- a filled hold's cell: its header is plain and names the meter's entry t, or it is the moved record's, flagged
 pub data Cell (dir : List ℕ) (v : Move) (arena : List ℕ) (h m : ℕ) : Type 0 where
@@ -72,6 +79,9 @@ module _ {X : Type 0} {dir map : List ℕ} {v : Move} {arena : List ℕ} {val : 
   copied-fit l =
       let z = home-real (early l) in
       omega (arith, copied-le (stageOf (v .stage)) (words (kind (v .meter))) (v .copied) l (C .count))
+
+  pub first-uncopied : First v → v .copied ≡ 0
+  first-uncopied l = first-none (stageOf (v .stage)) (words (kind (v .meter))) (v .copied) l (C .count)
 
   -- the kind in the label of the moved record, at its old cell
   pub from-kind : {c d : ℕ} → Sides v c d → kindOf (label arena (v .from)) ≡ kind (v .meter)

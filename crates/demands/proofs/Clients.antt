@@ -118,8 +118,8 @@ module _ {X : Type 0} (s : State) (g : Account) (t : Step) (I : Inv X s g) (seat
     filled : hold (ownRow s t) (holdOf x) ≢ none
     filled = eqb-false (hold (ownRow s t) (holdOf x)) none (k .1 .1 .1 .0)
 
-    asked : (p : Phase) → Asked (g .kind) (withPhase (ownRow s t) p) q x
-    asked p = record {
+    asked : Asked (g .kind) (hold (ownRow s t) (holdOf x)) q x
+    asked = record {
       pending = refl;
       filled = filled;
       fits = rw (held-kind (I .core) (R .holds (holdOf x)) filled) at (leb-false (payloadAt (s .arena) (hold (ownRow s t) (holdOf x))) (wordOf x) (k .1 .1 .1 .1 .0));
@@ -147,11 +147,11 @@ module _ {X : Type 0} (s : State) (g : Account) (t : Step) (I : Inv X s g) (seat
         by-test Next (flagOf (header (s .arena) (hold (ownRow s t) (holdOf x))))
         (λ y. absurd (omega (arith, eqb-true (header (s .arena) (hold (ownRow s t) (holdOf x)) % 2) 1 y)))
         (λ _. rw says (seat-row I t seat _ q (with-phase (Ready (header (s .arena) (hold (ownRow s t) (holdOf x)) / 2) x)
-        (ready (record { asked = asked _; place = at-entry (p ∙ sym back); newest = λ _. p ∙ sym back; away = λ _ k _ z. f k .0 (sym back ∙ z) })))))
+        (ready (record { asked = asked; place = at-entry (p ∙ sym back); newest = λ _. p ∙ sym back; away = λ _ k _ z. f k .0 (sym back ∙ z) })))))
     by-cell (flagged-cell e p u l o) =
         by-test Next (flagOf (header (s .arena) (hold (ownRow s t) (holdOf x))))
         (λ _. rw says (seat-row I t seat _ q (with-phase (Waiting (hold (ownRow s t) (holdOf x)) x)
-        (waits (record { asked = asked _; held = refl; owes = R .lt (l, rw (← o) e); elsewhere = λ _ z. absurd (z o) })))))
+        (waits (record { asked = asked; held = refl; owes = R .lt (l, rw (← o) e); elsewhere = λ _ z. absurd (z o) })))))
         (λ y. absurd (eqb-false (header (s .arena) (hold (ownRow s t) (holdOf x)) % 2) 1 y (omega arith)))
 
     access-inv : Next (loadHeader (s .arena) (ownRow s t) x)

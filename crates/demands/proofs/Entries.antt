@@ -30,6 +30,11 @@ carry-entry {kind = kind} {m = m} E o h same =
       vals = λ x w p. same (2 + w) (omega arith) (omega arith) ∙ E .vals x w p;
     }
 
+-- another account that says the same of this meter
+pub same-account : {X : Type 0} {v : Move} {arena : List ℕ} {val val′ : ℕ → ℕ → ℕ} {kind kind′ own : ℕ → ℕ} {m c : ℕ} → kind′ m ≡ kind m → val′ m ≡ val m
+    → EntryOK X v arena val kind own m c → EntryOK X v arena val′ kind′ own m c
+same-account e f E = record { kinded = rw e (E .kinded); range = rw e (E .range); label = rw e (E .label); owns = rw e (E .owns); head = E .head; vals = rw (e, f) (E .vals) }
+
 -- the header of meter a's record, at cell c, becomes w
 module _ {X : Type 0} {dir map : List ℕ} {v : Move} {arena : List ℕ} {val : ℕ → ℕ → ℕ} {kind own : ℕ → ℕ} (C : Core X dir map v arena val kind own)
     (a c : ℕ) (e : entry dir a ≡ c) (here : c < 1024) (w : ℕ) where
@@ -46,7 +51,7 @@ module _ {X : Type 0} {dir map : List ℕ} {v : Move} {arena : List ℕ} {val : 
   pub stored-else : (i d n j : ℕ) → Owns own i d n → j < 8 * n → (a ≡ i → (c ≡ d) × (j ≢ 0)) → word (set arena (place c 0) w) d j ≡ word arena d j
   stored-else i d n j o b f = let z = old-real in put-else own arena a c (cells (kind a)) 0 w i d n j (old-entry .owns) o (omega arith) b f
 
-  pub stored-entry : {v′ : Move} {own′ : ℕ → ℕ} (m : ℕ) → entry dir m ≢ none → Owns own′ m (entry dir m) (cells (kind m)) → HeadOK v′ a c w
+  pub stored-entry : {v′ : Move} {own′ : ℕ → ℕ} (m : ℕ) → entry dir m ≢ none → Owns own′ m (entry dir m) (cells (kind m)) → (m ≡ a → HeadOK v′ a c w)
       → (m ≢ a → HeadOK v m (entry dir m) (header arena (entry dir m)) → HeadOK v′ m (entry dir m) (header arena (entry dir m)))
       → EntryOK X v′ (set arena (place c 0) w) val kind own′ m (entry dir m)
   stored-entry {v′} m n o h keep =
@@ -59,7 +64,7 @@ module _ {X : Type 0} {dir map : List ℕ} {v : Move} {arena : List ℕ} {val : 
       at-c z = sym e ∙ ap (entry dir) (sym z)
 
       same : m ≡ a → HeadOK v′ m (entry dir m) (header (set arena (place c 0) w) (entry dir m))
-      same z = rw (z, e, stored-head) h
+      same z = rw (z, e, stored-head) (h z)
 
       other : m ≢ a → HeadOK v′ m (entry dir m) (header (set arena (place c 0) w) (entry dir m))
       other z =

@@ -235,7 +235,7 @@ module _ (s : State) (Z : Sizes s) (S : Sound s) where
       held : (i : ℕ) → HoldOK dir v (hold r i) (openedBy arena r i)
       held i = hold-of (hold r i) (all-get (HoldRight dir v) (r .holds) i (R .holds) (hold-empty refl))
 
-      asked : (c : ℕ) (x : Access) → AccessRight arena r x → Asked (kindIn s) r (clientIn arena r (Ready c x)) x
+      asked : (c : ℕ) (x : Access) → AccessRight arena r x → Asked (kindIn s) (hold r (holdOf x)) (clientIn arena r (Ready c x)) x
       asked c x A = record { pending = refl; fits = rw (held-kind core-of (held (holdOf x)) (A .filled)) at (A .word); filled = A .filled }
 
       by-phase : (p : Phase) → PhaseRight arena r p → Owing (flagUp v arena) (v .from) (s .control .begun) (r .swaps) p

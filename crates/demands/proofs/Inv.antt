@@ -37,21 +37,21 @@ pub data Place (dir : List ℕ) (h m c : ℕ) : Type 0 where
   at-entry : entry dir m ≡ c → Place dir h m c
   at-hold : h ≡ c → Place dir h m c
 
--- the access of a busy row: it is the log's, and fits the record
-pub record Asked (kind : ℕ → ℕ) (r : Row) (q : Client) (x : Access) : Type 0 where
+-- the access of a busy row: it is the log's, and fits the record; its hold's cell is h
+pub record Asked (kind : ℕ → ℕ) (h : ℕ) (q : Client) (x : Access) : Type 0 where
   pub pending : q .pending ≡ accessTo (q .opened (holdOf x)) x
   pub fits : wordOf x < payload (kind (q .opened (holdOf x)))
-  pub filled : hold r (holdOf x) ≢ none
+  pub filled : h ≢ none
 
 -- once the first barrier is passed and while the header is flagged, no row is ready at the old block
 pub record ReadyOK (X : Type 0) (dir : List ℕ) (v : Move) (kind : ℕ → ℕ) (h : ℕ) (r : Row) (q : Client) (c : ℕ) (x : Access) : Type 0 where
-  pub asked : Asked kind r q x
+  pub asked : Asked kind (hold r (holdOf x)) q x
   pub place : Place dir (hold r (holdOf x)) (q .opened (holdOf x)) c
   pub newest : X → entry dir (q .opened (holdOf x)) ≡ c
   pub away : X → Flag v h → (First v → r .passed ≡ true) → c ≢ v .from
 
 pub record WaitingOK (v : Move) (kind : ℕ → ℕ) (h begun : ℕ) (r : Row) (q : Client) (c : ℕ) (x : Access) : Type 0 where
-  pub asked : Asked kind r q x
+  pub asked : Asked kind (hold r (holdOf x)) q x
   pub held : c ≡ hold r (holdOf x)
   pub owes : r .swaps < begun
   pub elsewhere : Flag v h → c ≢ v .from → suc (r .swaps) < begun

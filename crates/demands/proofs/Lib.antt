@@ -8,6 +8,13 @@ pub mod Entries
 pub mod RowLaws
 pub mod Clients
 pub mod Swaps
+pub mod Finishes
+pub mod Begins
+pub mod Copying
+pub mod Commits
+pub mod Ends
+pub mod Admits
+pub mod Always
 pub mod Cover
 pub mod FromRules
 pub mod ToRules

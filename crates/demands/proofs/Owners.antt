@@ -6,7 +6,7 @@ use mathlib.Core.List.{List}
 use Prim.Native.Nat.{ℕ, _+_, _-_, _≤_, _<_}
 use native.Mathlib.Omega.{arith}
 use lib.Dec.{eqb, ltb, leb}
-use borrow.Author.Tests.{eqb-true, leb-true, leb-false, ltb-true, ltb-false}
+use borrow.Author.Tests.{eqb-true, eqb-false, ne-eqb, leb-true, leb-false, ltb-true, ltb-false}
 use Rattle.model.specs.Choice.{pick}
 use Rattle.model.specs.Records.{none}
 use Rattle.model.specs.CellMap.{used, putRun}
@@ -61,3 +61,19 @@ free-unowned own map h x lt e =
 
 pub run-unowned : (own : ℕ → ℕ) (map : List ℕ) (n c : ℕ) → Mapped own map → FreeRun map n c → Owns own none c n
 run-unowned own map n c h run x p q = free-unowned own map h x (omega (arith, run .within)) (run .free x p q)
+
+-- two owners change places
+unfoldable pub exchange : ℕ → ℕ → ℕ → ℕ
+exchange a b i = pick (eqb i a) b (pick (eqb i b) a i)
+
+pub exchange-cases : (P : ℕ → ℕ → Type 0) (a b i : ℕ) → (i ≡ a → P i b) → (i ≡ b → P i a) → (i ≢ a → i ≢ b → P i i) → P i (exchange a b i)
+unfolding exchange
+exchange-cases P a b i f g h =
+    by-test (P i) (eqb i a) (λ e. f (eqb-true i a e))
+    (λ e. by-test (P i) (eqb i b) (λ k. g (eqb-true i b k)) (λ k. h (eqb-false i a e) (eqb-false i b k)))
+
+pub mapped-exchange : (own : ℕ → ℕ) (map : List ℕ) (a b : ℕ) → a ≢ none → b ≢ none → Mapped own map → Mapped (λ x. exchange a b (own x)) map
+mapped-exchange own map a b p q h x lt =
+    h x lt
+    ∙ exchange-cases (λ i j. bitOf i ≡ bitOf j) a b (own x)
+    (λ e. rw (e, ne-eqb a none p, ne-eqb b none q)) (λ e. rw (e, ne-eqb a none p, ne-eqb b none q)) (λ _ _. refl)

@@ -1,12 +1,12 @@
 -- How one row's part of the invariant is read, made and carried from step to step. Assumes nothing.
 use mathlib.Core.Path.{_≡_, refl, sym, _∙_, subst⁻¹}
 use mathlib.Core.Logic.{_≢_}
-use mathlib.Core.Bool.{Bool, true, false}
+use mathlib.Core.Bool.{Bool, true, false, not}
 use mathlib.Core.List.{List}
 use Prim.Native.Nat.{ℕ, pred, _+_, _≤_, _<_}
 use native.Mathlib.Omega.{arith}
 use lib.Dec.{T}
-use lib.ListN.{length, getD, set, length-set}
+use lib.ListN.{length, getD, set, length-set, List·getD-map}
 use Rattle.model.specs.declared.Access.{Access}
 use Rattle.model.specs.declared.Phase.{Phase}
 use Rattle.model.specs.declared.Phase.the-variants.{Resting, Ready, Waiting}
@@ -14,14 +14,14 @@ use Rattle.model.specs.declared.Row.{Row}
 use Rattle.model.specs.declared.Move.{Move}
 use Rattle.model.specs.Choice.{one}
 use Rattle.model.specs.Records.{none, header}
-use Rattle.model.specs.Rows.{holdOf, busy, hold, freshRow, withPassed}
+use Rattle.model.specs.Rows.{busy, hold, freshRow, withPassed, cleared, clearMarks, hasPassed, allPassed}
 use Rattle.model.specs.State.{State, withRow, rowOf}
 use Rattle.model.specs.Steps.{Step, ownRow}
 use Rattle.model.specs.Rules.{isEarly}
 use Rattle.model.proofs.Choice.{clash}
 use Rattle.demands.specs.Log.{noAccess, Client, Account, newClient, clientOf, withClient}
 use Rattle.demands.proofs.Stages.{Early, Late}
-use Rattle.demands.proofs.Lists.{getD-fresh, set-cases, set-both}
+use Rattle.demands.proofs.Lists.{set-cases, set-both, all-get}
 use Rattle.demands.proofs.Blocks.{side-lt}
 use Rattle.demands.proofs.Inv.{Flag, HoldOK, empty, Asked, ReadyOK, WaitingOK, PhaseOK, rests, ready, waits, Detached, RowOK, late, Core, Rows, Inv}
 
@@ -29,9 +29,13 @@ use Rattle.demands.proofs.Inv.{Flag, HoldOK, empty, Asked, ReadyOK, Wai
 abbrev pub RowIn : Type 0 → State → Account → Row → Client → Type 0
 RowIn X s g r q = RowOK X (s .control .dir) (s .control .mv) (g .kind) (header (s .arena) (s .control .mv .from)) (s .control .begun) r q
 
-one-early : (b : Bool) → T b → one b ≡ 1
+pub one-early : (b : Bool) → T b → one b ≡ 1
 one-early true t = refl
 one-early false t = absurd t
+
+pub one-not : (b : Bool) → (T b → ⊥) → one b ≡ 0
+one-not true n = absurd (n tt)
+one-not false n = refl
 
 module _ {X : Type 0} {dir : List ℕ} {v : Move} {kind : ℕ → ℕ} {h begun : ℕ} {r : Row} {q : Client} where
   -- a row that is not busy rests, in the log too
@@ -43,11 +47,11 @@ module _ {X : Type 0} {dir : List ℕ} {v : Move} {kind : ℕ → ℕ} {h begun 
   -- the phase's part at another directory, move, kinds, header and count, and for a row and client that differ
   pub carry-phase : {dir′ : List ℕ} {v′ : Move} {kind′ : ℕ → ℕ} {h′ begun′ : ℕ} {r′ : Row} {q′ : Client} {p : Phase}
       → (q .pending ≡ noAccess → q′ .pending ≡ noAccess)
-      → ((c : ℕ) (x : Access) → ReadyOK X dir v kind h r q c x → ReadyOK X dir′ v′ kind′ h′ r′ q′ c x)
+      → ((c : ℕ) (x : Access) → p ≡ Ready c x → ReadyOK X dir v kind h r q c x → ReadyOK X dir′ v′ kind′ h′ r′ q′ c x)
       → ((c : ℕ) (x : Access) → WaitingOK v kind h begun r q c x → WaitingOK v′ kind′ h′ begun′ r′ q′ c x)
       → PhaseOK X dir v kind h begun r q p → PhaseOK X dir′ v′ kind′ h′ begun′ r′ q′ p
   carry-phase a b c (rests e) = rests (a e)
-  carry-phase a b c (ready {c = d} {x = x} W) = ready (b d x W)
+  carry-phase a b c (ready {c = d} {x = x} W) = ready (b d x refl W)
   carry-phase a b c (waits {c = d} {x = x} W) = waits (c d x W)
 
 -- the row where the old header is another number, which is flagged only where the old number was
@@ -61,10 +65,23 @@ reflag-row f R = record {
   le = R .le;
   lt = λ k. R .lt (f k);
   phase = carry-phase (λ e. e)
-      (λ c x W. record { asked = W .asked; place = W .place; newest = W .newest; away = λ y k. W .away y (f k) })
+      (λ c x _ W. record { asked = W .asked; place = W .place; newest = W .newest; away = λ y k. W .away y (f k) })
       (λ c x W. record { asked = W .asked; held = W .held; owes = W .owes; elsewhere = λ k. W .elsewhere (f k) })
       (R .phase);
 }
+
+-- marks: a row with another mark, which an unattached one keeps; a table with its marks cleared; a table whose rows have all passed
+pub marked : (r : Row) (p : Bool) → (r .attached ≡ false → p ≡ true) → (r .attached ≡ false → Detached r) → r .attached ≡ false → Detached (withPassed r p)
+marked r p e d z = record { passed = e z; empty = d z .empty; rests = d z .rests }
+
+pub cleared-passed : (r : Row) → r .attached ≡ false → not (r .attached) ≡ true
+cleared-passed r e = rw e refl
+
+pub cleared-get : (table : List Row) (i : ℕ) → getD (clearMarks table) i freshRow ≡ cleared (getD table i freshRow)
+cleared-get table i = List·getD-map cleared table i freshRow
+
+pub passed-get : (table : List Row) → allPassed table ≡ true → (i : ℕ) → getD table i freshRow .passed ≡ true
+passed-get table e = all-get hasPassed table freshRow e refl
 
 module _ {X : Type 0} {s : State} {g : Account} (I : Inv X s g) where
   pub begun-early : Early (s .control .mv) → 0 < s .control .begun

@@ -8,15 +8,14 @@ use Prim.Native.Nat.{ℕ}
 use Rattle.model.specs.declared.Answer.the-variants.{Refused, Done}
 use Rattle.model.specs.State.{State}
 use Rattle.model.specs.Answers.{Outcome}
-use Rattle.model.specs.Steps.{Step, nameOf, act}
+use Rattle.model.specs.Steps.{Step, act}
 use Rattle.model.specs.Rules.{firstBroken}
 use Rattle.model.specs.Calls.{wrongSize, unsound, stepCall, Ran, ran, then, oneByOne, stepsFrom, stepsOf, runSizes, runCall}
 use Rattle.model.proofs.Choice.{by-test}
 use Rattle.model.proofs.Says.{says-eq, says-not}
 use Rattle.model.proofs.Sizes.{Sizes, right-size}
-use Rattle.demands.specs.Log.{Account, told, after}
-use Rattle.demands.proofs.Inv.{Inv}
-use Rattle.demands.proofs.Kept.{sound-kept, sizes-kept, after-good}
+use Rattle.demands.specs.Log.{after}
+use Rattle.demands.proofs.Kept.{sound-kept, sizes-kept, after-sound, after-sizes}
 
 -- a state that breaks no rule is not refused by 2
 pub sound-passes : (s : State) → firstBroken s ≡ 0 → unsound s ≡ false
@@ -64,18 +63,17 @@ no-steps s Z e = run-acts s [] [] Z none-fit e
 pub no-steps-unsound : (s : State) → Sizes s → firstBroken s ≢ 0 → runCall s [] [] ≡ ran (Refused 2) [] s
 no-steps-unsound s Z n = run-unsound s [] [] (right-size s Z) none-fit n
 
-module _ (act-inv : (s : State) (g : Account) (t : Step) → Inv ⊥ s g → Inv ⊥ (act s t .next) (told (nameOf t) g t (act s t .answer))) where
-  steps-are-acts : (l : List Step) (s : State) → Sizes s → firstBroken s ≡ 0 → oneByOne stepCall s l ≡ oneByOne act s l
-  steps-are-acts [] s Z e = refl
-  steps-are-acts (t ∷ l) s Z e =
-      ap (λ (o : Outcome). then o (oneByOne stepCall (o .next) l)) (step-is-act s t Z e)
-      ∙ ap (then (act s t)) (steps-are-acts l (act s t .next) (sizes-kept act-inv s t Z e) (sound-kept act-inv s t Z e))
+steps-are-acts : (l : List Step) (s : State) → Sizes s → firstBroken s ≡ 0 → oneByOne stepCall s l ≡ oneByOne act s l
+steps-are-acts [] s Z e = refl
+steps-are-acts (t ∷ l) s Z e =
+    ap (λ (o : Outcome). then o (oneByOne stepCall (o .next) l)) (step-is-act s t Z e)
+    ∙ ap (then (act s t)) (steps-are-acts l (act s t .next) (sizes-kept s t Z e) (sound-kept s t Z e))
 
-  -- "checks soundness once and equals the steps one by one"
-  pub run-is-steps : (s : State) (ws slots : List ℕ) → Sizes s → runSizes ws slots ≡ true → firstBroken s ≡ 0
-      → runCall s ws slots ≡ oneByOne stepCall s (stepsOf ws)
-  run-is-steps s ws slots Z q e = run-acts s ws slots Z q e ∙ sym (steps-are-acts (stepsOf ws) s Z e)
+-- "checks soundness once and equals the steps one by one"
+pub run-is-steps : (s : State) (ws slots : List ℕ) → Sizes s → runSizes ws slots ≡ true → firstBroken s ≡ 0
+    → runCall s ws slots ≡ oneByOne stepCall s (stepsOf ws)
+run-is-steps s ws slots Z q e = run-acts s ws slots Z q e ∙ sym (steps-are-acts (stepsOf ws) s Z e)
 
-  -- from fresh every step is what `act` does
-  pub step-after : (l : List Step) (t : Step) → stepCall (after l) t ≡ act (after l) t
-  step-after l t = let G = after-good act-inv l in step-is-act (after l) t (G .sizes) (G .sound)
+-- from fresh every step is what `act` does
+pub step-after : (l : List Step) (t : Step) → stepCall (after l) t ≡ act (after l) t
+step-after l t = step-is-act (after l) t (after-sizes l) (after-sound l)

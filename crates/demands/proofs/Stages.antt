@@ -1,5 +1,6 @@
 -- The stages of a move as tests, and one law for every fact that relates them: it is computed at each of the five stages.
 -- Assumes nothing.
+use mathlib.Core.Path.{_≡_}
 use mathlib.Core.Bool.{Bool, true, false, not}
 use mathlib.Core.List.{List, [], _∷_}
 use Prim.Native.Nat.{ℕ, zero, suc}
@@ -61,3 +62,13 @@ not-both v = at-stage early late never tt (v .stage)
 
 pub first-early : (v : Move) → First v → Early v
 first-early v l = at-stage first first early tt (v .stage) l l
+
+-- with no move in hand
+pub idle-of : (v : Move) → inHand (stageOf (v .stage)) ≡ false → Idle v
+idle-of v e = rw e tt
+
+pub idle-early : (v : Move) → Idle v → Early v → ⊥
+idle-early v = at-stage (λ g. not (inHand g)) early never tt (v .stage)
+
+pub idle-late : (v : Move) → Idle v → Late v → ⊥
+idle-late v = at-stage (λ g. not (inHand g)) late never tt (v .stage)

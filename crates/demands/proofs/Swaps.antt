@@ -47,7 +47,7 @@ module _ {X : Type 0} {dir map : List ℕ} {v : Move} {arena : List ℕ} {val : 
         entries256 = C .entries256;
         words8192 = length-set arena (place (v .from) 0) (plain (v .from)) ∙ C .words8192;
         is-map = C .is-map;
-        entries = λ m n. stored-entry C (v .meter) (v .from) (S .home) (S .inside) (plain (v .from)) m n (C .entries m n .owns) (own-head refl) (λ _ k. k);
+        entries = λ m n. stored-entry C (v .meter) (v .from) (S .home) (S .inside) (plain (v .from)) m n (C .entries m n .owns) (λ _. own-head refl) (λ _ k. k);
         mapped = C .mapped;
         owned = C .owned;
         idle = C .idle;
@@ -78,12 +78,7 @@ module _ {X : Type 0} (s : State) (g : Account) (t : Step) (I : Inv X s g) (seat
         passed = R .passed;
         le = omega (arith, W .owes);
         lt = λ k. let b = f k in omega (arith, W .elsewhere (b .0) (b .2));
-        phase = ready (record {
-          asked = record { pending = W .asked .pending; fits = W .asked .fits; filled = W .asked .filled };
-          place = at-entry e;
-          newest = λ _. e;
-          away = λ _ k _. f k .1;
-        });
+        phase = ready (record { asked = W .asked; place = at-entry e; newest = λ _. e; away = λ _ k _. f k .1 });
       }
 
   abbrev Next : Stepped → Type 0

@@ -15,7 +15,7 @@ use Rattle.model.specs.declared.Move.{Move}
 use Rattle.model.specs.Choice.{total}
 use Rattle.model.specs.Kinds.{cells, words}
 use Rattle.model.specs.Records.{none, header, targetOf, label, cellsAt, wordsAt}
-use Rattle.model.specs.Rows.{holdOf, freshRow}
+use Rattle.model.specs.Rows.{holdOf, hold, freshRow}
 use Rattle.model.specs.State.{Stage, idle, firstBarrier, copying, secondBarrier, thirdBarrier, stageOf, inHand, noMove, entry, State}
 use Rattle.model.specs.Rules.{early as early-stage, late as late-stage, covers, recordCovers, flagUp}
 use Rattle.model.proofs.Choice.{by-test, clash, order}
@@ -194,7 +194,7 @@ module _ {X : Type 0} (s : State) (g : Account) (I : Inv X s g) where
         passed = λ l p. at-all _ none (r .holds) (λ i _. R .passed l p i);
       }
     where
-      access : (x : Access) → Asked (g .kind) r q x → AccessRight arena r x
+      access : (x : Access) → Asked (g .kind) (hold r (holdOf x)) q x → AccessRight arena r x
       access x A = record { filled = A .filled; word = rw (held-kind C (R .holds (holdOf x)) (A .filled)) (A .fits) }
 
       by-phase : {p : Phase} → PhaseOK X dir v (g .kind) (header arena (v .from)) (s .control .begun) r q p → PhaseRight arena r p
