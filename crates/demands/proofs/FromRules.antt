@@ -22,16 +22,19 @@ use Rattle.model.specs.Rules.{isEarly, early as early-stage, late as late-stage
 use Rattle.model.proofs.Choice.{same-or-not}
 use Rattle.model.proofs.ByKind.{real}
 use Rattle.model.proofs.Says.{says-eq, says-holds, says-not, says-when, says-every, all-get, one-yes}
-use Rattle.model.proofs.Readings.{Sound, NumbersAt, HeaderRight, own-header, flag-header, HoldRight, hold-empty, hold-present, hold-old, AccessRight, PhaseRight, RowRight, SwapsAt, Owing, owed-words, waiting-owes, says-flag}
+use Rattle.model.proofs.Readings.{Sound, NumbersAt, HeaderRight, own-header, flag-header, HoldRight, hold-empty, hold-present, hold-old}
+use Rattle.model.proofs.Readings.{AccessRight, PhaseRight, RowRight, SwapsAt, Owing, owed-words, waiting-owes, says-flag}
 use Rattle.model.proofs.Covers.{record-in, record-is, covers-in, covers-is, otherOver, other-early, other-late, other-by}
 use Rattle.model.proofs.Fresh.{fresh-row, fresh-swaps}
 use Rattle.model.proofs.Sizes.{Sizes, FourHolds}
 use Rattle.demands.specs.Log.{Pending, noAccess, accessTo, Client, Account}
 use Rattle.demands.proofs.Lists.{getD-in}
 use Rattle.demands.proofs.Owners.{other, Owns}
-use Rattle.demands.proofs.Inv.{HoldOK, empty, here, was, Place, at-entry, at-hold, Asked, PhaseOK, rests, ready, waits, RowOK, HeadOK, own-head, flag-head, Sides, early, late, SidesOK, Block, in-entry, in-other, Count, Core, Inv}
+use Rattle.demands.proofs.Inv.{HoldOK, empty, here, was, Place, at-entry, at-hold, Asked, PhaseOK, rests, ready, waits, RowOK}
+use Rattle.demands.proofs.Inv.{HeadOK, own-head, flag-head, Sides, early, late, SidesOK, Block, in-entry, in-other, Count, Core, Inv}
 use Rattle.demands.proofs.Blocks.{Cell, unflagged, flagged-cell, held-kind, cell}
-use Rattle.demands.proofs.Cover.{owner, Owner, beyond, nobody, the-other, a-record, owner-is, owner-record, owner-other, owner-mapped}
+use Rattle.demands.proofs.Cover.{owner, Owner, beyond, nobody, the-other, a-record, owner-is, owner-record, owner-other}
+use Rattle.demands.proofs.Cover.{owner-mapped}
 
 -- what a state alone says of kinds, of the meters held and of the accesses begun
 abbrev pub kindIn : State → ℕ → ℕ

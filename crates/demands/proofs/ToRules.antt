@@ -20,14 +20,19 @@ use Rattle.model.specs.State.{Stage, idle, firstBarrier, copying, secondBarrier
 use Rattle.model.specs.Rules.{early as early-stage, late as late-stage, covers, recordCovers, flagUp}
 use Rattle.model.proofs.Choice.{by-test, clash, order}
 use Rattle.model.proofs.Says.{says-eq, says-not, at-all}
-use Rattle.model.proofs.Readings.{RecordsRight, MoveRight, CellsRight, HeadersRight, HeaderRight, own-header, flag-header, NumbersAt, HoldRight, hold-empty, hold-present, hold-old, AccessRight, PhaseRight, RowRight, SwapsAt, Owing, owed-le, says-flag, Sound}
-use Rattle.model.proofs.Covers.{total-zero, total-one, covers-in, covers-out, record-in, record-out, otherOver, other-early, other-late, other-by, blocks-are}
+use Rattle.model.proofs.Readings.{RecordsRight, MoveRight, CellsRight, HeadersRight, HeaderRight, own-header, flag-header, NumbersAt}
+use Rattle.model.proofs.Readings.{HoldRight, hold-empty, hold-present, hold-old, AccessRight, PhaseRight, RowRight, SwapsAt, Owing, owed-le}
+use Rattle.model.proofs.Readings.{says-flag, Sound}
+use Rattle.model.proofs.Covers.{total-zero, total-one, covers-in, covers-out, record-in, record-out, otherOver, other-early, other-late}
+use Rattle.model.proofs.Covers.{other-by, blocks-are}
 use Rattle.model.proofs.Sizes.{Sizes, FourHolds}
 use Rattle.demands.specs.Log.{Client, Account}
 use Rattle.demands.proofs.Lists.{getD-in}
 use Rattle.demands.proofs.Owners.{other}
-use Rattle.demands.proofs.Inv.{Flag, HoldOK, empty, here, was, Place, at-entry, at-hold, Asked, PhaseOK, rests, ready, waits, RowOK, HeadOK, own-head, flag-head, Sides, early, late, Block, in-entry, in-other, Count, Core, Inv}
-use Rattle.demands.proofs.Blocks.{Cell, unflagged, flagged-cell, meter-lt, entry-range, home-in, home-entry, from-kind, held-kind, cell}
+use Rattle.demands.proofs.Inv.{Flag, HoldOK, empty, here, was, Place, at-entry, at-hold, Asked, PhaseOK, rests, ready, waits, RowOK}
+use Rattle.demands.proofs.Inv.{HeadOK, own-head, flag-head, Sides, early, late, Block, in-entry, in-other, Count, Core, Inv}
+use Rattle.demands.proofs.Blocks.{Cell, unflagged, flagged-cell, meter-lt, entry-range, home-in, home-entry, from-kind, held-kind}
+use Rattle.demands.proofs.Blocks.{cell}
 
 -- a number that is no stage counts as none in hand
 stage-lt : (v : Move) → (T (not (inHand (stageOf (v .stage)))) → v ≡ noMove) → v .stage < 5

@@ -17,8 +17,10 @@ use Rattle.model.specs.Rules.{recordCovers, flagUp}
 use Rattle.model.proofs.Choice.{order, same-or-not}
 use Rattle.model.proofs.CellMap.{used-lt}
 use Rattle.model.proofs.Says.{Says, says-as, Somewhere}
-use Rattle.model.proofs.Covers.{Over, total-at, total-two, total-some, total-zero, total-one, record-le, record-in, record-is, record-out, otherOver, other-le, blocks-are}
-use Rattle.model.proofs.Readings.{Present, CellsRight, MoveRight, HeadersRight, HeaderRight, own-header, flag-header, FlagUp, says-flag}
+use Rattle.model.proofs.Covers.{Over, total-at, total-two, total-some, total-zero, total-one, record-le, record-in, record-is}
+use Rattle.model.proofs.Covers.{record-out, otherOver, other-le, blocks-are}
+use Rattle.model.proofs.Readings.{Present, CellsRight, MoveRight, HeadersRight, HeaderRight, own-header, flag-header, FlagUp}
+use Rattle.model.proofs.Readings.{says-flag}
 
 -- R3 "Used cells are exactly those of present records and of the move's other block; none lies in two."
 module _ (dir : List ℕ) (v : Move) (arena : List ℕ) (x : ℕ) where
