@@ -2,10 +2,10 @@ pub mod Choice
 pub mod ByKind
 pub mod Bits
 pub mod CellMap
-pub mod Records
-pub mod Counts
 pub mod Refusals
 pub mod Answered
+pub mod Records
+pub mod Counts
 pub mod Effects
 pub mod Says
 pub mod Readings

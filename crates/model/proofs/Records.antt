@@ -1,4 +1,4 @@
--- Laws of words laid over the arena: a store before or after them is one word more; which words change, and to what; a new record.
+-- Laws of words laid over the arena: a store before or after them is one word more; what stands at each place; a new record's words.
 -- Assumes nothing.
 use mathlib.Core.Path.{_≡_, refl, ap, _∙_}
 use mathlib.Core.List.{List, [], _∷_, _++_}
