@@ -20,3 +20,8 @@ pub mod MoveCounts
 pub mod SwapCounts
 pub mod Accesses
 pub mod LastWritten
+pub mod Cover
+pub mod FromRules
+pub mod ToRules
+pub mod Kept
+pub mod Runs

@@ -8,6 +8,8 @@ pub mod Records
 pub mod Counts
 pub mod Effects
 pub mod Says
-pub mod Stages
 pub mod Readings
+pub mod Covers
+pub mod Wording
 pub mod Fresh
+pub mod Sizes
