@@ -1,7 +1,7 @@
 -- ADMIT and RETIRE keep the invariant: one meter's entry changes, and no row speaks of that meter. Assumes nothing.
 use mathlib.Core.Path.{_≡_, refl, sym, ap, _∙_}
 use mathlib.Core.Logic.{_≢_, ⊎-elim}
-use mathlib.Core.Bool.{Bool, true, false}
+use mathlib.Core.Bool.{false}
 use mathlib.Core.List.{List}
 use Prim.Native.Nat.{ℕ, _+_, _*_, _≤_, _<_}
 use native.Mathlib.Omega.{arith}
@@ -12,31 +12,28 @@ use borrow.Author.Tests.{eqb-true, eqb-false, eq-eqb, ne-eqb, ltb-false, not-fal
 use Rattle.model.specs.declared.Access.{Access}
 use Rattle.model.specs.declared.Row.{Row}
 use Rattle.model.specs.declared.Move.{Move}
-use Rattle.model.specs.Choice.{any}
 use Rattle.model.specs.Kinds.{cells, words}
-use Rattle.model.specs.Records.{none, start, word, header, label, kindOf, newRecord, laid}
+use Rattle.model.specs.Records.{none, start, word, header, label, newRecord, laid}
 use Rattle.model.specs.CellMap.{lowestRun, putRun}
 use Rattle.model.specs.Rows.{holdOf, hold, freshRow}
 use Rattle.model.specs.State.{Stage, idle, firstBarrier, copying, secondBarrier, thirdBarrier, stageOf, entry, State}
-use Rattle.model.specs.KeeperSteps.{admit, retire}
 use Rattle.model.specs.Rules as rules
-use Rattle.model.specs.Refusals.{holdsCell, refuse}
-use Rattle.model.specs.Steps.{Step, ADMIT, RETIRE, refusals, effect, refused}
+use Rattle.model.specs.Refusals.{holdsCell}
+use Rattle.model.specs.Steps.{Step, ADMIT, RETIRE}
 use Rattle.model.proofs.Choice.{same-or-not}
-use Rattle.model.proofs.ByKind.{Real, real}
+use Rattle.model.proofs.ByKind.{real}
 use Rattle.model.proofs.CellMap.{FreeRun, run-map, lowest-free}
 use Rattle.model.proofs.Records.{length-laid, laid-in, new-length, new-zero}
-use Rattle.model.proofs.Refusals.{unless-refused}
-use Rattle.demands.specs.Log.{Client, Account, update, admits}
-use Rattle.demands.proofs.Stages.{Idle, Early, Late, idle-of, idle-early, idle-late}
+use Rattle.demands.specs.Log.{Client, Account, update}
+use Rattle.demands.proofs.Stages.{Idle, idle-of, idle-early, idle-late}
 use Rattle.demands.proofs.Lists.{getD-in, set-cases, any-get}
 use Rattle.demands.proofs.Owners.{other, Owns, repaint, repaint-cases, repaint-in, owns-keep, mapped-run, run-unowned}
 use Rattle.demands.proofs.Words.{laid-else}
-use Rattle.demands.proofs.Inv.{Flag, HoldOK, empty, here, was, Place, at-entry, at-hold, Asked, RowOK, own-head, EntryOK, Sides, early, late, SidesOK, Block, in-entry, in-other, Count, Core, Inv}
+use Rattle.demands.proofs.Inv.{HoldOK, empty, here, was, Place, at-entry, at-hold, Asked, RowOK, own-head, EntryOK, Sides, early, late, SidesOK, Block, in-entry, in-other, Count, Core, Inv}
 use Rattle.demands.proofs.Blocks.{meter-lt, entry-range, home-in, home-lt, home-entry, home-real, copied-fit, held-in, held-kind}
 use Rattle.demands.proofs.Entries.{carry-entry, same-account}
 use Rattle.demands.proofs.RowLaws.{carry-phase, reflag-row}
-use Rattle.demands.proofs.Clients.{Good}
+use Rattle.demands.proofs.Keeping.{Keeps, keeps}
 
 -- a row whose filled holds were opened on other meters than a, when a's entry and kind change
 redirected-row : {X : Type 0} {dir : List ℕ} {v : Move} {kind kind′ : ℕ → ℕ} {h b : ℕ} {r : Row} {q : Client} (a c : ℕ) → ((i : ℕ) → hold r i ≢ none → q .opened i ≢ a)
@@ -118,9 +115,9 @@ module _ {X : Type 0} {dir map : List ℕ} {v : Move} {arena : List ℕ} {val : 
   held-other (here u e) z w = λ i. w (sym e ∙ ap (entry dir) i)
   held-other (was l _ _) z w = absurd (idle-late v quiet l)
 
-pub retire-inv : {X : Type 0} (s : State) (g : Account) (t : Step) → Inv X s g → Good X RETIRE g t (refuse (refusals RETIRE s t) (refused s) (effect RETIRE s t))
+pub retire-inv : {X : Type 0} (s : State) (g : Account) (t : Step) → Inv X s g → Keeps X RETIRE s g t
 retire-inv {X} s g t I =
-    unless-refused (Good X RETIRE g t) (refusals RETIRE s t) (refused s) (effect RETIRE s t) (λ _. I) (λ k.
+    keeps RETIRE s g t I (λ k.
     let c : ℕ = entry (s .control .dir) (t .a) in
     let quiet = idle-of (s .control .mv) (k .1 .0) in
     let present : c ≢ none = eqb-false c none (k .1 .1 .0) in
@@ -266,9 +263,9 @@ module _ {X : Type 0} {dir map : List ℕ} {v : Move} {arena : List ℕ} {val : 
       redirected-row a c (λ i n. present-other _ (held-in C (R .holds i) n)) same-kind
       (reflag-row (λ f. let z = home-real C (early (f .0)) in (f .0, sym (side-word (early (f .0)) 0 (omega arith) .0) ∙ f .1)) R)
 
-pub admit-inv : {X : Type 0} (s : State) (g : Account) (t : Step) → Inv X s g → Good X ADMIT g t (refuse (refusals ADMIT s t) (refused s) (effect ADMIT s t))
+pub admit-inv : {X : Type 0} (s : State) (g : Account) (t : Step) → Inv X s g → Keeps X ADMIT s g t
 admit-inv {X} s g t I =
-    unless-refused (Good X ADMIT g t) (refusals ADMIT s t) (refused s) (effect ADMIT s t) (λ _. I) (λ k.
+    keeps ADMIT s g t I (λ k.
     let c : ℕ = lowestRun (s .control .map) (cells (t .b)) in
     let ha = ltb-false 255 (t .a) (k .0) in
     let small = ltb-false 3 (t .b) (k .1 .0) in

@@ -1,11 +1,10 @@
 -- BEGIN keeps the invariant: the target is a free run, so nobody's; the flag is up, and no row has passed. Assumes nothing.
-use mathlib.Core.Path.{_≡_, refl, sym, ap, _∙_}
+use mathlib.Core.Path.{_≡_, refl, sym, _∙_}
 use mathlib.Core.Logic.{_≢_}
-use mathlib.Core.Bool.{Bool, true, false}
 use mathlib.Core.List.{List}
-use Prim.Native.Nat.{ℕ, suc, _+_, _*_, _^_, _≤_, _<_}
+use Prim.Native.Nat.{ℕ, suc, _<_}
 use native.Mathlib.Omega.{arith}
-use lib.ListN.{getD, set, length-set, length-map}
+use lib.ListN.{set, length-set, length-map}
 use borrow.Author.Tests.{eqb-false, leb-false, not-true}
 use Rattle.model.specs.declared.Access.{Access}
 use Rattle.model.specs.declared.Phase.the-variants.{Resting, Ready}
@@ -14,24 +13,22 @@ use Rattle.model.specs.declared.Move.{Move}
 use Rattle.model.specs.Kinds.{cells}
 use Rattle.model.specs.Records.{none, place, label, kindOf, flagged}
 use Rattle.model.specs.CellMap.{lowestRun, putRun}
-use Rattle.model.specs.Rows.{cleared, clearMarks, freshRow}
+use Rattle.model.specs.Rows.{cleared, clearMarks}
 use Rattle.model.specs.State.{withMove, withBegun, rise, entry, State, state}
 use Rattle.model.specs.KeeperSteps.{taken, firstMove}
-use Rattle.model.specs.Refusals.{refuse}
 use Rattle.model.specs.Rules.{isEarly}
-use Rattle.model.specs.Steps.{Step, BEGIN, refusals, effect, refused}
-use Rattle.model.proofs.ByKind.{Real, real}
+use Rattle.model.specs.Steps.{Step, BEGIN}
+use Rattle.model.proofs.ByKind.{real}
 use Rattle.model.proofs.CellMap.{FreeRun, run-map, lowest-free}
 use Rattle.model.proofs.Counts.{rise-is}
-use Rattle.model.proofs.Refusals.{unless-refused}
 use Rattle.demands.specs.Log.{Client, Account}
-use Rattle.demands.proofs.Stages.{Idle, Early, Late, idle-of, idle-early, idle-late}
-use Rattle.demands.proofs.Owners.{other, Owns, repaint, repaint-cases, repaint-in, owns-keep, mapped-run, run-unowned}
-use Rattle.demands.proofs.Inv.{Flag, HoldOK, empty, here, was, ReadyOK, WaitingOK, RowOK, HeadOK, own-head, flag-head, Sides, early, late, SidesOK, Block, in-entry, in-other, Core, Inv}
+use Rattle.demands.proofs.Stages.{Idle, idle-of, idle-early, idle-late}
+use Rattle.demands.proofs.Owners.{other, repaint, repaint-cases, repaint-in, owns-keep, mapped-run, run-unowned}
+use Rattle.demands.proofs.Inv.{HoldOK, empty, here, was, RowOK, HeadOK, own-head, flag-head, Sides, early, late, SidesOK, Block, in-entry, in-other, Core, Inv}
 use Rattle.demands.proofs.Blocks.{meter-lt, entry-range, held-kind}
 use Rattle.demands.proofs.Entries.{stored-entry}
 use Rattle.demands.proofs.RowLaws.{one-not, carry-phase, marked, cleared-passed, cleared-get}
-use Rattle.demands.proofs.Clients.{Good}
+use Rattle.demands.proofs.Keeping.{Keeps, keeps}
 
 -- the move of meter a, at c, to target d
 module _ {X : Type 0} {dir map : List ℕ} {v : Move} {arena : List ℕ} {val : ℕ → ℕ → ℕ} {kind own : ℕ → ℕ} (C : Core X dir map v arena val kind own)
@@ -115,8 +112,8 @@ module _ {X : Type 0} (s : State) (g : Account) (t : Step) (I : Inv X s g) where
         small = omega (arith, I .small);
       }
 
-  pub begin-inv : Good X BEGIN g t (refuse (refusals BEGIN s t) (refused s) (effect BEGIN s t))
-  begin-inv = unless-refused (Good X BEGIN g t) (refusals BEGIN s t) (refused s) (effect BEGIN s t) (λ _. I) (λ k.
+  pub begin-inv : Keeps X BEGIN s g t
+  begin-inv = keeps BEGIN s g t I (λ k.
       let present : c ≢ none = eqb-false c none (k .1 .1 .0) in
       let same : kindOf (label (s .arena) c) ≡ g .kind (t .a) = held-kind (I .core) {h = c} {m = t .a} (here (entry-range (I .core) (t .a) present) refl) present in
       let d : ℕ = lowestRun (s .control .map) (cells (g .kind (t .a))) in

@@ -1,8 +1,8 @@
 -- What the invariant says of the records, of the move's two blocks and of a held cell. Assumes nothing.
-use mathlib.Core.Path.{_≡_, refl, sym, ap, _∙_}
+use mathlib.Core.Path.{_≡_, sym, ap, _∙_}
 use mathlib.Core.Logic.{_≢_}
 use mathlib.Core.List.{List}
-use Prim.Native.Nat.{ℕ, _+_, _*_, _/_, _%_, _≤_, _<_}
+use Prim.Native.Nat.{ℕ, _*_, _≤_, _<_}
 use native.Mathlib.Omega.{arith}
 use lib.Dec.{T}
 use Rattle.model.specs.declared.Move.{Move}
@@ -11,10 +11,10 @@ use Rattle.model.specs.Records.{none, header, plain, flagged, label, kindOf}
 use Rattle.model.specs.State.{Stage, idle, firstBarrier, copying, secondBarrier, thirdBarrier, stageOf, entry}
 use Rattle.model.specs.Rules as rules
 use Rattle.model.proofs.ByKind.{Real, real}
-use Rattle.demands.proofs.Stages.{first, First, Early, Late, not-both}
+use Rattle.demands.proofs.Stages.{first, First, Early, not-both}
 use Rattle.demands.proofs.Lists.{getD-in}
-use Rattle.demands.proofs.Owners.{other, Owns}
-use Rattle.demands.proofs.Inv.{Flag, HoldOK, empty, here, was, HeadOK, own-head, flag-head, EntryOK, Sides, early, late, SidesOK, Count, Core}
+use Rattle.demands.proofs.Owners.{other}
+use Rattle.demands.proofs.Inv.{Flag, HoldOK, empty, here, was, HeadOK, own-head, flag-head, EntryOK, Sides, early, late, Count, Core}
 
 pub copied-le : (g : Stage) (z n : ℕ) → T (rules.early g) → Count g z n → n ≤ z
 copied-le idle z n l k = absurd l

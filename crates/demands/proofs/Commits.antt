@@ -1,29 +1,28 @@
 -- The commit keeps the invariant: the replica has every word of the record, its owner and the old block's change places, and no row is
 -- ready at the old block. Assumes nothing.
-use mathlib.Core.Path.{_≡_, refl, sym, ap, _∙_, subst}
+use mathlib.Core.Path.{_≡_, refl, sym, ap, _∙_}
 use mathlib.Core.Logic.{_≢_, ⊎-elim}
-use mathlib.Core.Bool.{Bool, true, false}
 use mathlib.Core.List.{List}
-use Prim.Native.Nat.{ℕ, suc, _+_, _*_, _≤_, _<_}
+use Prim.Native.Nat.{ℕ, suc, _+_, _*_, _<_}
 use native.Mathlib.Omega.{arith}
-use lib.ListN.{length, getD, set, length-set, length-map}
+use lib.ListN.{length, set, length-set, length-map}
 use lib.Seq.{getD-set-same, getD-set-other}
 use borrow.Author.Tests.{not-true}
 use Rattle.model.specs.declared.Row.{Row}
 use Rattle.model.specs.declared.Move.{Move}
 use Rattle.model.specs.Kinds.{cells}
 use Rattle.model.specs.Records.{none, place, word, header, plain, flagged}
-use Rattle.model.specs.Rows.{hold, cleared, freshRow}
+use Rattle.model.specs.Rows.{cleared}
 use Rattle.model.specs.State.{secondBarrier, stageOf, rise, entry, State}
 use Rattle.model.specs.KeeperSteps.{commit}
 use Rattle.model.specs.Rules.{isEarly}
 use Rattle.model.proofs.Choice.{same-or-not}
 use Rattle.model.proofs.Counts.{rise-is}
 use Rattle.demands.specs.Log.{Client, Account}
-use Rattle.demands.proofs.Stages.{First, Early, Late, not-both}
+use Rattle.demands.proofs.Stages.{First, Early, not-both}
 use Rattle.demands.proofs.Lists.{getD-in, set-cases}
 use Rattle.demands.proofs.Owners.{other, Owns, exchange, exchange-cases, mapped-exchange}
-use Rattle.demands.proofs.Inv.{Flag, HoldOK, empty, here, was, Place, at-entry, at-hold, RowOK, HeadOK, own-head, flag-head, EntryOK, Sides, early, late, SidesOK, Block, in-entry, in-other, Core, Inv}
+use Rattle.demands.proofs.Inv.{HoldOK, empty, here, was, Place, at-entry, at-hold, RowOK, HeadOK, own-head, flag-head, EntryOK, Sides, early, late, SidesOK, Block, in-entry, in-other, Core, Inv}
 use Rattle.demands.proofs.Blocks.{meter-lt, home-in, home-lt, home-entry, home-real, side-lt}
 use Rattle.demands.proofs.Entries.{stored-head, stored-else, stored-entry}
 use Rattle.demands.proofs.RowLaws.{one-early, carry-phase, marked, cleared-passed, cleared-get}

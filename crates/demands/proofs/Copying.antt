@@ -4,7 +4,7 @@ use mathlib.Core.Path.{_≡_, refl, sym, ap, _∙_, subst}
 use mathlib.Core.Logic.{_≢_, ⊎-elim}
 use mathlib.Core.Bool.{Bool, true, false, not}
 use mathlib.Core.List.{List}
-use Prim.Native.Nat.{ℕ, suc, _+_, _*_, _^_, _≤_, _<_}
+use Prim.Native.Nat.{ℕ, suc, _+_, _*_, _≤_, _<_}
 use native.Mathlib.Omega.{arith}
 use lib.Dec.{T, eqb}
 use lib.ListN.{length, getD, set, length-set, length-map}
@@ -13,10 +13,9 @@ use Rattle.model.specs.declared.Row.{Row}
 use Rattle.model.specs.declared.Move.{Move}
 use Rattle.model.specs.Choice.{one}
 use Rattle.model.specs.Kinds.{cells, words}
-use Rattle.model.specs.Records.{none, place, word, header, plain, label, labelOf, kindOf, wordsAt}
-use Rattle.model.specs.Rows.{freshRow, withPassed, cleared, clearMarks, allPassed}
-use Rattle.model.specs.State.{Stage, firstBarrier, copying, stageOf, inHand, withMove, rise, entry, State, state}
-use Rattle.model.specs.Answers.{Outcome}
+use Rattle.model.specs.Records.{place, word, header, plain, label, labelOf, wordsAt}
+use Rattle.model.specs.Rows.{freshRow, withPassed, cleared, allPassed}
+use Rattle.model.specs.State.{Stage, firstBarrier, copying, stageOf, inHand, rise, entry, State}
 use Rattle.model.specs.KeeperSteps.{barrier, startCopying, replicaWord, copyWord}
 use Rattle.model.specs.Steps.{Step, ADVANCE}
 use Rattle.model.specs.Rules as rules
@@ -27,11 +26,11 @@ use Rattle.demands.specs.Log.{Client, Account}
 use Rattle.demands.proofs.Stages.{never, First, Early, Late, at-stage, not-both}
 use Rattle.demands.proofs.Owners.{other, Owns}
 use Rattle.demands.proofs.Words.{put-at, put-else}
-use Rattle.demands.proofs.Inv.{Flag, HoldOK, empty, here, was, RowOK, HeadOK, own-head, flag-head, EntryOK, Sides, early, late, SidesOK, Block, in-entry, in-other, Count, Core, Inv}
+use Rattle.demands.proofs.Inv.{Flag, HoldOK, empty, here, was, RowOK, HeadOK, own-head, flag-head, Sides, early, late, SidesOK, Block, in-entry, in-other, Count, Core, Inv}
 use Rattle.demands.proofs.Blocks.{meter-lt, home-lt, home-entry, home-real, copied-le, from-kind}
 use Rattle.demands.proofs.Entries.{carry-entry}
 use Rattle.demands.proofs.RowLaws.{one-early, carry-phase, marked, cleared-passed, cleared-get, passed-get}
-use Rattle.demands.proofs.Clients.{Good}
+use Rattle.demands.proofs.Keeping.{Good, keeps}
 
 -- the move at the stage of number k, with n words copied
 abbrev pub restaged : Move → ℕ → ℕ → Move

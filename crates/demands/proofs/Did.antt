@@ -1,8 +1,8 @@
 -- The ways a step can go, found once; each count and promise is then read off them. Assumes nothing.
-use mathlib.Core.Path.{_≡_, refl, sym, ap, _∙_}
-use mathlib.Core.Logic.{_≢_, ⊎-elim}
+use mathlib.Core.Path.{_≡_, refl}
+use mathlib.Core.Logic.{_≢_}
 use mathlib.Core.Bool.{Bool, true, false, not}
-use mathlib.Core.List.{List, [], _∷_}
+use mathlib.Core.List.{List}
 use Prim.Native.Nat.{ℕ, zero, suc, pred, _+_, _*_, _≤_, _<_}
 use native.Mathlib.Omega.{arith}
 use lib.Dec.{T, eqb, ltb}
@@ -17,15 +17,14 @@ use Rattle.model.specs.declared.Phase.the-variants.{Resting, Ready, Waiting}
 use Rattle.model.specs.declared.Row.{Row}
 use Rattle.model.specs.declared.Move.{Move}
 use Rattle.model.specs.declared.Stepped.{Stepped}
-use Rattle.model.specs.Choice.{all}
-use Rattle.model.specs.Kinds.{cells, words}
+use Rattle.model.specs.Kinds.{cells}
 use Rattle.model.specs.Records.{none, place, word, header, flagged, flagOf, cellsAt, wordsAt}
 use Rattle.model.specs.CellMap.{lowestRun}
 use Rattle.model.specs.Rows.{holdOf, wordOf, isWrite, busy, hold, clearMarks, allPassed}
 use Rattle.model.specs.State.{Stage, idle, firstBarrier, copying, secondBarrier, thirdBarrier, stageOf, rise, entry, State, withArena, withRow}
 use Rattle.model.specs.Answers.{number, value, Outcome, outcome}
 use Rattle.model.specs.KeeperSteps.{admit, retire, begin, barrier, startCopying, copied, copyWord, commit, callOff, settle, giveBack, advance}
-use Rattle.model.specs.ClientSteps.{atHeader, loadHeader, swap, finish, go, changed}
+use Rattle.model.specs.ClientSteps.{atHeader, loadHeader, swap, finish, go}
 use Rattle.model.specs.Rules.{isEarly}
 use Rattle.model.specs.Refusals.{Refusal, refuse}
 use Rattle.model.specs.Steps.{Step, Name, ADMIT, RETIRE, BEGIN, ADVANCE, ATTACH, DETACH, OPEN, DROP, READ, WRITE, GO, REST, UNKNOWN, NOBODY, keeperCodes, clientCodes, named, nameOf, ownRow, refusals, seated, effect, refused, act}
@@ -37,9 +36,9 @@ use Rattle.model.proofs.Refusals.{Passed, numbers, each, by-refusals}
 use Rattle.demands.specs.Log.{accessTo, Account, clientOf}
 use Rattle.demands.proofs.Stages.{Idle, Early, idle-of}
 use Rattle.demands.proofs.Lists.{all-get}
-use Rattle.demands.proofs.Inv.{PhaseOK, rests, ready, waits, ReadyOK, WaitingOK, Inv, early}
+use Rattle.demands.proofs.Inv.{rests, ready, waits, Inv, early}
 use Rattle.demands.proofs.Blocks.{entry-range, home-real}
-use Rattle.demands.proofs.RowLaws.{one-early, phase-rests, row-in}
+use Rattle.demands.proofs.RowLaws.{oldHeader, PhaseIn, ReadyIn, one-early, phase-rests, row-in}
 use Rattle.demands.proofs.Entries.{stored-head}
 use Rattle.demands.proofs.Finishes.{home-head, spot-of, read-right}
 use Rattle.demands.proofs.Copying.{count-at, from-word}
@@ -55,22 +54,22 @@ pub data Turn (Right : Answer → Type 0) (r : Row) (x : Answer) (r′ : Row) : 
 
 -- the keeper's accepted steps that are not answered 22
 pub data Kept (s : State) (t : Step) : Answer → State → Type 0 where
-  admits : (m k c : ℕ) → (Early (s .control .mv) → header (admit s m k c .next .arena) (s .control .mv .from) ≡ header (s .arena) (s .control .mv .from))
+  admits : (m k c : ℕ) → (Early (s .control .mv) → header (admit s m k c .next .arena) (s .control .mv .from) ≡ oldHeader s)
       → Kept s t (Admitted c) (admit s m k c .next)
   retires : (m c : ℕ) → Kept s t (Done 0) (retire s m c .next)
   begins : (c d : ℕ) → Idle (s .control .mv) → rise (s .control .begun) ≡ suc (s .control .begun)
       → header (set (s .arena) (place c 0) (flagged c)) c ≡ flagged c → Kept s t (Begun d) (begin s (t .a) c d .next)
   starts : stageOf (s .control .mv .stage) ≡ firstBarrier → s .control .mv .copied ≡ 0 → Kept s t CopyingStarts (startCopying s .next)
   copies : stageOf (s .control .mv .stage) ≡ copying → rise (s .control .mv .copied) ≡ suc (s .control .mv .copied)
-      → header (copied s copying (s .table) .next .arena) (s .control .mv .from) ≡ header (s .arena) (s .control .mv .from)
+      → header (copied s copying (s .table) .next .arena) (s .control .mv .from) ≡ oldHeader s
       → Kept s t (Copied (rise (s .control .mv .copied))) (copied s copying (s .table) .next)
   fills : stageOf (s .control .mv .stage) ≡ copying → rise (s .control .mv .copied) ≡ suc (s .control .mv .copied)
-      → header (copied s copying (s .table) .next .arena) (s .control .mv .from) ≡ header (s .arena) (s .control .mv .from)
+      → header (copied s copying (s .table) .next .arena) (s .control .mv .from) ≡ oldHeader s
       → Kept s t (Copied (rise (s .control .mv .copied))) (copied s secondBarrier (clearMarks (s .table)) .next)
   commits : stageOf (s .control .mv .stage) ≡ secondBarrier → rise (s .control .committed) ≡ suc (s .control .committed)
       → Kept s t (Committed (s .control .mv .target)) (commit s .next)
   calls-off : stageOf (s .control .mv .stage) ≡ secondBarrier → rise (s .control .aborted) ≡ suc (s .control .aborted)
-      → header (s .arena) (s .control .mv .from) ≢ flagged (s .control .mv .from) → Kept s t CalledOff (callOff s .next)
+      → oldHeader s ≢ flagged (s .control .mv .from) → Kept s t CalledOff (callOff s .next)
   gives-back : stageOf (s .control .mv .stage) ≡ thirdBarrier → Kept s t GivenBack (giveBack s .next)
 
 -- the rows stay, or their marks are cleared
@@ -83,7 +82,7 @@ pub data Did (Right : Answer → Type 0) (s : State) (t : Step) : Outcome → Ty
   stays : t .who ≡ 0 → Did Right s t (outcome BarrierOpen s)
   keeps : {x : Answer} {s′ : State} → t .who ≡ 0 → 20 ≤ number x → number x < 31 → SameRows (s .table) (s′ .table) → Kept s t x s′ → Did Right s t (outcome x s′)
   acts : {x : Answer} {r : Row} {arena : List ℕ} → 0 < t .who → t .who ≤ 8 → 30 ≤ number x
-      → (Early (s .control .mv) → number x ≢ 33 → header arena (s .control .mv .from) ≡ header (s .arena) (s .control .mv .from)) → Turn Right (ownRow s t) x r
+      → (Early (s .control .mv) → number x ≢ 33 → header arena (s .control .mv .from) ≡ oldHeader s) → Turn Right (ownRow s t) x r
       → Did Right s t (outcome x (withArena (withRow s (t .who) r) arena))
 
 -- whose a step is
@@ -220,7 +219,7 @@ module _ {X : Type 0} (s : State) (g : Account) (t : Step) (I : Inv X s g) where
         (λ _. acts (w .0) (w .1) (omega arith) (λ _ n. absurd (n refl)) (swaps refl up e refl)) (λ _. acts (w .0) (w .1) (omega arith) (λ _ n. absurd (n refl)) (swaps refl up e refl))
 
     finishing : (c : ℕ) (y : Access) → ownRow s t .phase ≡ Ready c y
-        → ReadyOK X (s .control .dir) v (g .kind) (header (s .arena) (v .from)) (ownRow s t) (clientOf g t) c y → S (finish (s .arena) (ownRow s t) c y)
+        → ReadyIn X s g t c y → S (finish (s .arena) (ownRow s t) c y)
     finishing c (Read h i) e W =
         acts {x = Got (word (s .arena) c (2 + i))} (w .0) (w .1) (omega arith) (λ _ _. refl)
         (ends (omega arith) (omega arith) refl e refl (λ x _. (clientOf g t .opened h, Read h i, W .asked .pending, refl, read-right s g t I seat x W)))
@@ -229,7 +228,7 @@ module _ {X : Type 0} (s : State) (g : Account) (t : Step) (I : Inv X s g) where
         acts {x = Written} (w .0) (w .1) (omega arith) (λ l _. home-head (I .core) (P .0) (clientOf g t .opened h) c i u (P .1) (W .asked .fits) l)
         (ends (omega arith) (omega arith) refl e refl (λ _ z. absurd (omega arith)))
 
-    going : {p : Phase} → ownRow s t .phase ≡ p → PhaseOK X (s .control .dir) v (g .kind) (header (s .arena) (v .from)) (s .control .begun) (ownRow s t) (clientOf g t) p → not (busy p) ≡ false → S (go (s .arena) (ownRow s t) p)
+    going : {p : Phase} → ownRow s t .phase ≡ p → PhaseIn X s g t p → not (busy p) ≡ false → S (go (s .arena) (ownRow s t) p)
     going e (rests _) b = clash true refl b
     going e (ready {c = c} {x = y} W) b = finishing c y e W
     going e (waits W) b = swapping e (W .owes)

@@ -2,29 +2,26 @@
 -- ADVANCE does. Assumes nothing.
 use mathlib.Core.Path.{_≡_, refl, sym, ap, _∙_}
 use mathlib.Core.Logic.{_≢_}
-use mathlib.Core.Bool.{Bool, true, false}
+use mathlib.Core.Bool.{true}
 use mathlib.Core.List.{List}
 use Prim.Native.Nat.{ℕ, suc, _+_, _≤_, _<_}
 use native.Mathlib.Omega.{arith}
 use lib.Dec.{eqb}
-use lib.ListN.{getD}
 use borrow.Author.Tests.{eqb-true, eqb-false}
 use Rattle.model.specs.declared.Row.{Row}
 use Rattle.model.specs.declared.Move.{Move}
 use Rattle.model.specs.Kinds.{cells}
 use Rattle.model.specs.Records.{none, header, flagged}
 use Rattle.model.specs.CellMap.{putRun}
-use Rattle.model.specs.Rows.{hold, allPassed}
+use Rattle.model.specs.Rows.{allPassed}
 use Rattle.model.specs.State.{Stage, idle, firstBarrier, copying, secondBarrier, thirdBarrier, stageOf, noMove, rise, entry, State}
 use Rattle.model.specs.Answers.{Outcome}
 use Rattle.model.specs.KeeperSteps.{barrier, startCopying, settle, callOff, giveBack, advance}
 use Rattle.model.specs.Rules.{isEarly}
-use Rattle.model.specs.Refusals.{refuse}
-use Rattle.model.specs.Steps.{Step, ADVANCE, refusals, effect, refused}
+use Rattle.model.specs.Steps.{Step, ADVANCE}
 use Rattle.model.proofs.Choice.{by-test}
 use Rattle.model.proofs.CellMap.{run-map}
 use Rattle.model.proofs.Counts.{rise-is}
-use Rattle.model.proofs.Refusals.{unless-refused}
 use Rattle.demands.specs.Log.{Client, Account}
 use Rattle.demands.proofs.Stages.{Early, Late, not-both}
 use Rattle.demands.proofs.Owners.{other, repaint, repaint-cases, owns-keep, mapped-run}
@@ -32,7 +29,7 @@ use Rattle.demands.proofs.Inv.{Flag, HoldOK, empty, here, was, RowOK, H
 use Rattle.demands.proofs.Blocks.{meter-lt, from-kind}
 use Rattle.demands.proofs.Entries.{carry-entry}
 use Rattle.demands.proofs.RowLaws.{one-early, one-not, carry-phase, passed-get}
-use Rattle.demands.proofs.Clients.{Good}
+use Rattle.demands.proofs.Keeping.{Good, Keeps, keeps}
 use Rattle.demands.proofs.Copying.{first-inv, copy-inv}
 use Rattle.demands.proofs.Commits.{commit-inv}
 
@@ -151,5 +148,5 @@ module _ {X : Type 0} (s : State) (g : Account) (I : Inv X s g) where
     by-stage secondBarrier e = beyond (settle s) (λ _. settled e)
     by-stage thirdBarrier e = beyond (giveBack s) (give-back-inv e)
 
-    pub advance-inv : Good X ADVANCE g t (refuse (refusals ADVANCE s t) (refused s) (effect ADVANCE s t))
-    advance-inv = unless-refused (Good X ADVANCE g t) (refusals ADVANCE s t) (refused s) (effect ADVANCE s t) (λ _. I) (λ _. by-stage (stageOf (v .stage)) refl)
+    pub advance-inv : Keeps X ADVANCE s g t
+    advance-inv = keeps ADVANCE s g t I (λ _. by-stage (stageOf (v .stage)) refl)

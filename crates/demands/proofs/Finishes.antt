@@ -1,9 +1,9 @@
 -- GO of a ready client keeps the invariant: the access goes to the meter's own record, or, in the third barrier and of no concern to
 -- demand 2, to the old block; a write is then the last one to its word. A read that finishes gives the last value written.
 -- Assumes nothing.
-use mathlib.Core.Path.{_≡_, refl, sym, ap, _∙_, subst}
+use mathlib.Core.Path.{_≡_, refl, sym, ap, _∙_}
 use mathlib.Core.Logic.{_≢_}
-use mathlib.Core.Bool.{Bool, true, false, not}
+use mathlib.Core.Bool.{true, false, not}
 use mathlib.Core.List.{List}
 use Prim.Native.Nat.{ℕ, pred, _+_, _*_, _≤_, _<_}
 use native.Mathlib.Omega.{arith}
@@ -14,29 +14,25 @@ use Rattle.model.specs.declared.Access.{Access}
 use Rattle.model.specs.declared.Access.the-variants.{Read, Write}
 use Rattle.model.specs.declared.Phase.{Phase}
 use Rattle.model.specs.declared.Phase.the-variants.{Resting}
-use Rattle.model.specs.declared.Row.{Row}
 use Rattle.model.specs.declared.Move.{Move}
 use Rattle.model.specs.declared.Stepped.{Stepped}
 use Rattle.model.specs.Kinds.{cells, payload}
 use Rattle.model.specs.Records.{none, place, word, header}
-use Rattle.model.specs.Rows.{holdOf, wordOf, busy, hold, freshRow, withPhase}
+use Rattle.model.specs.Rows.{holdOf, wordOf, busy, freshRow, withPhase}
 use Rattle.model.specs.State.{State, entry}
 use Rattle.model.specs.ClientSteps.{finish, go}
-use Rattle.model.specs.Refusals.{refuse}
-use Rattle.model.specs.Steps.{Step, GO, ownRow, refusals, seated, effect, refused}
+use Rattle.model.specs.Steps.{Step, GO, ownRow, seated}
 use Rattle.model.proofs.Choice.{by-test, clash}
-use Rattle.model.proofs.ByKind.{Real, real}
-use Rattle.model.proofs.Refusals.{unless-refused}
-use Rattle.demands.specs.Log.{noAccess, Client, Account, update, clientOf, withPending, told}
+use Rattle.model.proofs.ByKind.{real}
+use Rattle.demands.specs.Log.{noAccess, Account, update, clientOf, withPending, told}
 use Rattle.demands.proofs.Stages.{Early, Late, not-both}
 use Rattle.demands.proofs.Lists.{set-both}
 use Rattle.demands.proofs.Owners.{other, Owns}
 use Rattle.demands.proofs.Words.{put-at, put-else}
-use Rattle.demands.proofs.Inv.{Flag, HoldOK, empty, here, was, Place, at-entry, at-hold, ReadyOK, PhaseOK, rests, ready, waits, RowOK, EntryOK, early, late, Core, Inv}
-use Rattle.demands.proofs.Blocks.{meter-lt, home-lt, home-in, home-entry, home-real, side-apart, copied-fit, first-uncopied, held-in, entry-range}
-use Rattle.demands.proofs.Entries.{carry-entry}
-use Rattle.demands.proofs.Clients.{Good}
-use Rattle.demands.proofs.RowLaws.{RowIn, reflag-row, row-in}
+use Rattle.demands.proofs.Inv.{Flag, HoldOK, empty, here, was, Place, at-entry, at-hold, rests, ready, waits, RowOK, EntryOK, early, late, Core, Inv}
+use Rattle.demands.proofs.Blocks.{meter-lt, home-in, home-entry, home-real, side-apart, copied-fit, first-uncopied, held-in}
+use Rattle.demands.proofs.Keeping.{Keeps, keeps}
+use Rattle.demands.proofs.RowLaws.{oldHeader, PhaseIn, ReadyIn, RowIn, reflag-row, row-in}
 use Rattle.demands.proofs.Swaps.{swap-inv}
 
 -- the block that an access to meter m goes to: owner i's, at cell c
@@ -158,12 +154,12 @@ module _ {X : Type 0} (s : State) (g : Account) (t : Step) (I : Inv X s g) (seat
   abbrev Next : Stepped → Type 0
   Next o = Inv X (seated s t o .next) (told GO g t (o .answer))
 
-  module _ (c : ℕ) (x : Access) (W : ReadyOK X (s .control .dir) (s .control .mv) (g .kind) (header (s .arena) (s .control .mv .from)) (ownRow s t) (clientOf g t) c x) where
+  module _ (c : ℕ) (x : Access) (W : ReadyIn X s g t c x) where
     pub spot-of : (i : ℕ) × Spot X (s .control .dir) (s .control .mv) (g .kind) (I .own) i (clientOf g t .opened (holdOf x)) c
     spot-of = spot (I .core) (R .holds (holdOf x)) (W .asked .filled) (W .place) (W .newest)
 
     -- the rows when the access is done, where the old header is h
-    rested : (h : ℕ) → (Early (s .control .mv) → h ≡ header (s .arena) (s .control .mv .from)) → (i : ℕ)
+    rested : (h : ℕ) → (Early (s .control .mv) → h ≡ oldHeader s) → (i : ℕ)
         → RowOK X (s .control .dir) (s .control .mv) (g .kind) h (s .control .begun) (getD (set (s .table) (pred (t .who)) (withPhase (ownRow s t) Resting)) i freshRow)
         (update (g .clients) (pred (t .who)) (withPending (clientOf g t) noAccess) i)
     rested h e i =
@@ -180,10 +176,10 @@ module _ {X : Type 0} (s : State) (g : Account) (t : Step) (I : Inv X s g) (seat
         })
         (I .rows) i)
 
-    away : X → Flag (s .control .mv) (header (s .arena) (s .control .mv .from)) → 0 < s .control .mv .copied → c ≢ s .control .mv .from
+    away : X → Flag (s .control .mv) (oldHeader s) → 0 < s .control .mv .copied → c ≢ s .control .mv .from
     away y f p = W .away y f (λ z. absurd (omega (arith, first-uncopied (I .core) z)))
 
-  finish-inv : (c : ℕ) (x : Access) → ReadyOK X (s .control .dir) (s .control .mv) (g .kind) (header (s .arena) (s .control .mv .from)) (ownRow s t) (clientOf g t) c x
+  finish-inv : (c : ℕ) (x : Access) → ReadyIn X s g t c x
       → Next (finish (s .arena) (ownRow s t) c x)
   finish-inv c (Read h w) W = rw (W .asked .pending) (record {
     own = I .own;
@@ -191,7 +187,7 @@ module _ {X : Type 0} (s : State) (g : Account) (t : Step) (I : Inv X s g) (seat
     eight = length-set (s .table) (pred (t .who)) _ ∙ I .eight;
     r7 = I .r7;
     small = I .small;
-    rows = rested c (Read h w) W (header (s .arena) (s .control .mv .from)) (λ _. refl);
+    rows = rested c (Read h w) W (oldHeader s) (λ _. refl);
   })
   finish-inv c (Write h w u) W = rw (W .asked .pending) (let S = spot-of c (Write h w u) W in record {
     own = I .own;
@@ -203,18 +199,18 @@ module _ {X : Type 0} (s : State) (g : Account) (t : Step) (I : Inv X s g) (seat
         (home-head (I .core) (S .0) (clientOf g t .opened h) c w u (S .1) (W .asked .fits));
   })
 
-  by-phase : {p : Phase} → PhaseOK X (s .control .dir) (s .control .mv) (g .kind) (header (s .arena) (s .control .mv .from)) (s .control .begun) (ownRow s t) (clientOf g t) p
+  by-phase : {p : Phase} → PhaseIn X s g t p
       → not (ownRow s t .attached) ≡ false → not (busy p) ≡ false → Next (go (s .arena) (ownRow s t) p)
   by-phase (rests e) a b = clash true refl b
   by-phase (ready {c = c} {x = x} W) a b = finish-inv c x W
   by-phase (waits {c = c} {x = x} W) a b = swap-inv s g t I seat (not-false (ownRow s t .attached) a) c x W
 
-  pub go-inv : Good X GO g t (refuse (refusals GO s t) (refused s) (effect GO s t))
-  go-inv = unless-refused (Good X GO g t) (refusals GO s t) (refused s) (effect GO s t) (λ _. I) (λ k. by-phase (R .phase) (k .0) (k .1 .0))
+  pub go-inv : Keeps X GO s g t
+  go-inv = keeps GO s g t I (λ k. by-phase (R .phase) (k .0) (k .1 .0))
 
   -- demand 2, at the step that finishes a read
   pub read-right : {c : ℕ} {x : Access} → X
-      → ReadyOK X (s .control .dir) (s .control .mv) (g .kind) (header (s .arena) (s .control .mv .from)) (ownRow s t) (clientOf g t) c x
+      → ReadyIn X s g t c x
       → word (s .arena) c (2 + wordOf x) ≡ g .lastWritten (clientOf g t .opened (holdOf x)) (wordOf x)
   read-right {c} {x} y W =
       let e = W .newest y in

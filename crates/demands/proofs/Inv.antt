@@ -2,7 +2,7 @@
 -- invariant gives demand 2, with X = ⊥ it is R1 to R8.
 use mathlib.Core.Path.{_≡_}
 use mathlib.Core.Logic.{_≢_}
-use mathlib.Core.Bool.{Bool, true, false}
+use mathlib.Core.Bool.{true, false}
 use mathlib.Core.List.{List}
 use Prim.Native.Nat.{ℕ, suc, _+_, _^_, _≤_, _<_}
 use lib.ListN.{length, getD}
@@ -18,7 +18,7 @@ use Rattle.model.specs.Rows.{holdOf, wordOf, hold, freshRow}
 use Rattle.model.specs.State.{Stage, idle, firstBarrier, copying, secondBarrier, thirdBarrier, stageOf, noMove, entry, State}
 use Rattle.model.specs.Rules.{isEarly}
 use Rattle.model.proofs.CellMap.{IsMap}
-use Rattle.demands.specs.Log.{Pending, noAccess, accessTo, Client, Account}
+use Rattle.demands.specs.Log.{noAccess, accessTo, Client, Account}
 use Rattle.demands.proofs.Stages.{Idle, First, Early, Late}
 use Rattle.demands.proofs.Owners.{other, Owns, Mapped}
 

@@ -13,7 +13,7 @@ use Rattle.model.specs.State.{State}
 use Rattle.model.specs.Answers.{number, value, Outcome}
 use Rattle.model.specs.Steps.{Step, act}
 use Rattle.demands.specs.Log.{accessTo, after, log, said, clientOf, lastFor}
-use Rattle.demands.proofs.Did.{Turn, handles, readies, waits-on, swaps, ends, Did, refuses, stays, keeps, acts, ReadRight, did}
+use Rattle.demands.proofs.Did.{Turn, handles, readies, waits-on, swaps, ends, Did, refuses, stays, keeps, acts, did}
 use Rattle.demands.proofs.Always.{always}
 
 turn-right : {Right : Answer → Type 0} {r r′ : Row} {x : Answer} → Turn Right r x r′ → number x ≡ 34 → Right x

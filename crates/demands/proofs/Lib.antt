@@ -6,6 +6,7 @@ pub mod Inv
 pub mod Blocks
 pub mod Entries
 pub mod RowLaws
+pub mod Keeping
 pub mod Clients
 pub mod Swaps
 pub mod Finishes

@@ -2,16 +2,15 @@
 -- are n + 3 when it is called off and n + 4 when it is given back. Assumes nothing.
 use mathlib.Core.Path.{_≡_, refl, sym, ap, _∙_, subst}
 use mathlib.Core.Logic.{_≢_}
-use mathlib.Core.Bool.{Bool, true, false}
 use mathlib.Core.List.{List, [], _∷_}
-use Prim.Native.Nat.{ℕ, suc, _+_, _*_, _≤_, _<_}
+use Prim.Native.Nat.{ℕ, _+_, _≤_}
 use native.Mathlib.Omega.{arith}
-use lib.Dec.{T, eqb, leb}
+use lib.Dec.{T, leb}
 use borrow.Author.Tests.{ne-eqb, leb-true}
 use Rattle.model.specs.declared.Answer.{Answer}
 use Rattle.model.specs.declared.Answer.the-variants.{Refused, Admitted, BarrierOpen, Done}
 use Rattle.model.specs.declared.Move.{Move}
-use Rattle.model.specs.Choice.{pick, _and_, one, total}
+use Rattle.model.specs.Choice.{_and_}
 use Rattle.model.specs.Kinds.{words}
 use Rattle.model.specs.State.{Stage, idle, firstBarrier, copying, secondBarrier, thirdBarrier, stageOf, inHand, State}
 use Rattle.model.specs.Answers.{number, Outcome}

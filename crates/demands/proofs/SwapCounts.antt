@@ -2,7 +2,6 @@
 -- called off lost its flag to a swap. Assumes nothing.
 use mathlib.Core.Path.{_≡_, refl, sym, ap, _∙_}
 use mathlib.Core.Logic.{_≢_, ⊎-elim}
-use mathlib.Core.Bool.{Bool, true, false}
 use mathlib.Core.List.{List, [], _∷_}
 use Prim.Native.Nat.{ℕ, zero, suc, pred, _+_, _*_, _≤_, _<_}
 use native.Mathlib.Omega.{arith}
@@ -17,13 +16,12 @@ use Rattle.model.specs.Records.{header, flagged}
 use Rattle.model.specs.Rows.{freshRow, clearMarks}
 use Rattle.model.specs.State.{State}
 use Rattle.model.specs.Answers.{number, Outcome}
-use Rattle.model.specs.Steps.{Step, ownRow}
+use Rattle.model.specs.Steps.{Step}
 use Rattle.model.proofs.Choice.{same-or-not}
-use Rattle.demands.specs.Log.{line, Log, Account, after, log, said, answered, answeredTo}
+use Rattle.demands.specs.Log.{line, Log, after, log, said, answered, answeredTo}
 use Rattle.demands.proofs.Stages.{Early}
 use Rattle.demands.proofs.Lists.{getD-fresh, set-cases, and-false}
-use Rattle.demands.proofs.Inv.{Inv}
-use Rattle.demands.proofs.RowLaws.{cleared-get}
+use Rattle.demands.proofs.RowLaws.{oldHeader, cleared-get}
 use Rattle.demands.proofs.Did.{Turn, handles, readies, waits-on, swaps, ends, SameRows, same, cleared, Did, refuses, stays, keeps, acts, Kept, admits, retires, begins, starts, copies, fills, commits, calls-off, gives-back, did}
 use Rattle.demands.proofs.Always.{always}
 use Rattle.demands.proofs.MoveCounts.{answered-other, begun-is-answered, aborted-is-answered}
@@ -93,7 +91,7 @@ told (t ∷ l) = let I = always {X = ⊥} l in did-told (I .eight) (did (after l
 -- a flag that is gone from a move's header was swapped away
 record Swapped (s : State) : Type 0 where
   pub off : s .control .aborted ≤ total swapsOf (s .table)
-  pub gone : Early (s .control .mv) → header (s .arena) (s .control .mv .from) ≢ flagged (s .control .mv .from) → s .control .aborted < total swapsOf (s .table)
+  pub gone : Early (s .control .mv) → oldHeader s ≢ flagged (s .control .mv .from) → s .control .aborted < total swapsOf (s .table)
 
 kept-swapped : {s s′ : State} {t : Step} {x : Answer} → total swapsOf (s′ .table) ≡ total swapsOf (s .table) → Kept s t x s′ → Swapped s → Swapped s′
 kept-swapped e (admits _ _ _ h) m = record { off = m .off; gone = λ l n. m .gone l (λ z. n (h l ∙ z)) }

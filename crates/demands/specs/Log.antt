@@ -1,5 +1,4 @@
 -- The log: the steps from fresh with what each was answered, and what it says. No word of the arena stands here.
-use mathlib.Core.Bool.{Bool, true, false}
 use mathlib.Core.List.{List, [], _∷_}
 use Prim.Native.Nat.{ℕ, suc, pred}
 use lib.Dec.{eqb, leb}
