@@ -49,14 +49,16 @@ swapped (waiting k) = ready (three k refl)
 done : {c : ℕ} {x : Access} {a : List ℕ} → Since (Ready c x) a → Heard a
 done (ready h) = h
 
-turn-since : {Right : Answer → Type 0} {r r′ : Row} {x : Answer} {a : List ℕ} → Turn Right r x r′ → Since (r .phase) a → Since (r′ .phase) (number x ∷ a)
+turn-since : {Right : Answer → Type 0} {r r′ : Row} {x : Answer} {a : List ℕ} → Turn Right r x r′ → Since (r .phase) a
+    → Since (r′ .phase) (number x ∷ a)
 turn-since (handles e _ p) h = rw p resting
 turn-since {a = a} (readies e _ p) h = rw (p, e) (ready (two a refl))
 turn-since {a = a} (waits-on e _ p) h = rw (p, e) (waiting a)
 turn-since (swaps e _ q p) h = rw (p, e) (swapped (rw q at h))
 turn-since (ends _ _ _ _ p _) h = rw p resting
 
-turn-ended : {Right : Answer → Type 0} {r r′ : Row} {x : Answer} {a : List ℕ} → Turn Right r x r′ → 34 ≤ number x → Since (r .phase) a → Heard a
+turn-ended : {Right : Answer → Type 0} {r r′ : Row} {x : Answer} {a : List ℕ} → Turn Right r x r′ → 34 ≤ number x → Since (r .phase) a
+    → Heard a
 turn-ended (handles e _ _) b h = absurd (omega arith)
 turn-ended (readies e _ _) b h = absurd (omega arith)
 turn-ended (waits-on e _ _) b h = absurd (omega arith)
@@ -66,18 +68,22 @@ turn-ended (ends _ _ _ q _ _) b h = done (rw q at h)
 unheard : {k k′ : List Row} {l : Log} (t : Step) (x : Answer) → SameRows k k′ → t .who ≡ 0 → Phases k l → Phases k′ (line t x ∷ l)
 unheard t x r e h = record { since = λ i. rw (same-phase r i, e, ne-eqb 0 (suc i) (omega arith)) (h .since i) }
 
-did-since : {Right : Answer → Type 0} {s : State} {t : Step} {o : Outcome} {l : Log} → length (s .table) ≡ 8 → Did Right s t o → Phases (s .table) l
+did-since : {Right : Answer → Type 0} {s : State} {t : Step} {o : Outcome} {l : Log} → length (s .table) ≡ 8 → Did Right s t o
+    → Phases (s .table) l
     → Phases (o .next .table) (line t (o .answer) ∷ l)
 did-since {t = t} e (refuses {n = n} b) h = record { since = λ i. rw (lt-leb 20 n b, and-false (eqb (t .who) (suc i))) (h .since i) }
 did-since {t = t} e (stays z) h = unheard t _ same z h
 did-since {t = t} e (keeps {x = x} z _ _ r _) h = unheard t x r z h
 did-since {s = s} {t = t} {l = l} e (acts {x = x} {r = r} p q b _ u) h = record {
-  since = set-cases (λ j (y : Row). Since (y .phase) (ownAnswers (suc j) (line t x ∷ l))) (s .table) (pred (t .who)) r freshRow (omega arith)
-      (rw (eq-eqb (t .who) (suc (pred (t .who))) (omega arith), le-leb 20 (number x) (omega arith)) (turn-since u (h .since (pred (t .who)))))
+  since = set-cases (λ j (y : Row). Since (y .phase) (ownAnswers (suc j) (line t x ∷ l))) (s .table) (pred (t .who)) r freshRow
+      (omega arith)
+      (rw (eq-eqb (t .who) (suc (pred (t .who))) (omega arith), le-leb 20 (number x) (omega arith))
+      (turn-since u (h .since (pred (t .who)))))
       (λ j n. rw (ne-eqb (t .who) (suc j) (λ z. n (omega arith))) (h .since j));
 }
 
-did-ended : {Right : Answer → Type 0} {s : State} {t : Step} {o : Outcome} {l : Log} → Did Right s t o → 34 ≤ number (o .answer) → Phases (s .table) l → Heard (ownAnswers (t .who) l)
+did-ended : {Right : Answer → Type 0} {s : State} {t : Step} {o : Outcome} {l : Log} → Did Right s t o → 34 ≤ number (o .answer)
+    → Phases (s .table) l → Heard (ownAnswers (t .who) l)
 did-ended (refuses b) n h = absurd (omega arith)
 did-ended (stays z) n h = absurd (omega arith)
 did-ended (keeps z _ b _ _) n h = absurd (omega arith)
@@ -95,8 +101,10 @@ access-heard l t n = did-ended (did (after l) (said (log l)) t (always {X = ⊥}
 -- how many: this step and those back to its READ or WRITE
 pub access-takes : (l : List Step) (t : Step) → 34 ≤ number (act (after l) t .answer)
     → (sinceAsked (ownAnswers (t .who) (log (t ∷ l))) ≡ 2) ⊎ (sinceAsked (ownAnswers (t .who) (log (t ∷ l))) ≡ 3)
-access-takes l t n = rw (eq-eqb (t .who) (t .who) refl, le-leb 20 (number (act (after l) t .answer)) (omega arith)) (count (number (act (after l) t .answer)) n (access-heard l t n))
+access-takes l t n = rw (eq-eqb (t .who) (t .who) refl, le-leb 20 (number (act (after l) t .answer)) (omega arith))
+    (count (number (act (after l) t .answer)) n (access-heard l t n))
   where
-    count : (x : ℕ) → 34 ≤ x → Heard (ownAnswers (t .who) (log l)) → (sinceAsked (x ∷ ownAnswers (t .who) (log l)) ≡ 2) ⊎ (sinceAsked (x ∷ ownAnswers (t .who) (log l)) ≡ 3)
+    count : (x : ℕ) → 34 ≤ x → Heard (ownAnswers (t .who) (log l))
+        → (sinceAsked (x ∷ ownAnswers (t .who) (log l)) ≡ 2) ⊎ (sinceAsked (x ∷ ownAnswers (t .who) (log l)) ≡ 3)
     count x b (two k e) = inl (rw (ne-eqb x 31 (omega arith), ne-eqb x 32 (omega arith), e) refl)
     count x b (three k e) = inr (rw (ne-eqb x 31 (omega arith), ne-eqb x 32 (omega arith), e) refl)

@@ -32,10 +32,12 @@ first-none thirdBarrier z n l k = absurd l
 
 -- a filled hold's cell: its header is plain and names the meter's entry t, or it is the moved record's, flagged
 pub data Cell (dir : List ℕ) (v : Move) (arena : List ℕ) (h m : ℕ) : Type 0 where
-  unflagged : (t : ℕ) → header arena h ≡ plain t → entry dir m ≡ t → t < 1024 → (Flag v (header arena (v .from)) → (t ≢ v .from) × (h ≢ v .from)) → Cell dir v arena h m
+  unflagged : (t : ℕ) → header arena h ≡ plain t → entry dir m ≡ t → t < 1024
+      → (Flag v (header arena (v .from)) → (t ≢ v .from) × (h ≢ v .from)) → Cell dir v arena h m
   flagged-cell : header arena h ≡ flagged h → entry dir m ≡ h → h < 1024 → Early v → h ≡ v .from → Cell dir v arena h m
 
-module _ {X : Type 0} {dir map : List ℕ} {v : Move} {arena : List ℕ} {val : ℕ → ℕ → ℕ} {kind own : ℕ → ℕ} (C : Core X dir map v arena val kind own) where
+module _ {X : Type 0} {dir map : List ℕ} {v : Move} {arena : List ℕ} {val : ℕ → ℕ → ℕ} {kind own : ℕ → ℕ}
+    (C : Core X dir map v arena val kind own) where
   pub meter-lt : (m : ℕ) → entry dir m ≢ none → m < 256
   meter-lt m n = omega (arith, getD-in dir m none n, C .entries256)
 

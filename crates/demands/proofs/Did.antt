@@ -49,8 +49,10 @@ pub data Turn (Right : Answer → Type 0) (r : Row) (x : Answer) (r′ : Row) : 
   handles : number x ≡ 30 → r′ .swaps ≡ r .swaps → r′ .phase ≡ Resting → Turn Right r x r′
   readies : {c : ℕ} {y : Access} → number x ≡ 31 → r′ .swaps ≡ r .swaps → r′ .phase ≡ Ready c y → Turn Right r x r′
   waits-on : {c : ℕ} {y : Access} → number x ≡ 32 → r′ .swaps ≡ r .swaps → r′ .phase ≡ Waiting c y → Turn Right r x r′
-  swaps : {c d : ℕ} {y : Access} → number x ≡ 33 → r′ .swaps ≡ suc (r .swaps) → r .phase ≡ Waiting c y → r′ .phase ≡ Ready d y → Turn Right r x r′
-  ends : {c : ℕ} {y : Access} → 34 ≤ number x → number x ≤ 35 → r′ .swaps ≡ r .swaps → r .phase ≡ Ready c y → r′ .phase ≡ Resting → Right x → Turn Right r x r′
+  swaps : {c d : ℕ} {y : Access} → number x ≡ 33 → r′ .swaps ≡ suc (r .swaps) → r .phase ≡ Waiting c y → r′ .phase ≡ Ready d y
+      → Turn Right r x r′
+  ends : {c : ℕ} {y : Access} → 34 ≤ number x → number x ≤ 35 → r′ .swaps ≡ r .swaps → r .phase ≡ Ready c y → r′ .phase ≡ Resting
+      → Right x → Turn Right r x r′
 
 -- the keeper's accepted steps that are not answered 22
 pub data Kept (s : State) (t : Step) : Answer → State → Type 0 where
@@ -80,7 +82,8 @@ pub data SameRows (k : List Row) : List Row → Type 0 where
 pub data Did (Right : Answer → Type 0) (s : State) (t : Step) : Outcome → Type 0 where
   refuses : {n : ℕ} → n < 20 → Did Right s t (refused s n)
   stays : t .who ≡ 0 → Did Right s t (outcome BarrierOpen s)
-  keeps : {x : Answer} {s′ : State} → t .who ≡ 0 → 20 ≤ number x → number x < 31 → SameRows (s .table) (s′ .table) → Kept s t x s′ → Did Right s t (outcome x s′)
+  keeps : {x : Answer} {s′ : State} → t .who ≡ 0 → 20 ≤ number x → number x < 31 → SameRows (s .table) (s′ .table) → Kept s t x s′
+      → Did Right s t (outcome x s′)
   acts : {x : Answer} {r : Row} {arena : List ℕ} → 0 < t .who → t .who ≤ 8 → 30 ≤ number x
       → (Early (s .control .mv) → number x ≢ 33 → header arena (s .control .mv .from) ≡ oldHeader s) → Turn Right (ownRow s t) x r
       → Did Right s t (outcome x (withArena (withRow s (t .who) r) arena))
@@ -123,10 +126,12 @@ keeper-who zero code e = refl
 keeper-who (suc client) code e =
     clash (ofKeeper (named (suc client) code)) e
     (by-test (λ (n : Name). ofKeeper n ≡ false) (ltb client 8)
-    (λ _. not-true (ofKeeper (getD clientCodes code UNKNOWN)) (all-get (λ n. not (ofKeeper n)) clientCodes UNKNOWN refl refl code)) (λ _. refl))
+    (λ _. not-true (ofKeeper (getD clientCodes code UNKNOWN)) (all-get (λ n. not (ofKeeper n)) clientCodes UNKNOWN refl refl code))
+    (λ _. refl))
 
 client-who : (who code : ℕ) → ofClient (named who code) ≡ true → (0 < who) × (who ≤ 8)
-client-who zero code e = clash (ofClient (named zero code)) e (not-true (ofClient (named zero code)) (all-get (λ n. not (ofClient n)) keeperCodes UNKNOWN refl refl code))
+client-who zero code e = clash (ofClient (named zero code)) e
+    (not-true (ofClient (named zero code)) (all-get (λ n. not (ofClient n)) keeperCodes UNKNOWN refl refl code))
 client-who (suc client) code e =
     by-test (λ (n : Name). ofClient n ≡ true → (0 < suc client) × (suc client ≤ 8)) (ltb client 8)
     (λ y _. let b = ltb-true client 8 y in (omega arith, omega arith)) (λ _ z. clash false z refl) e
@@ -134,7 +139,8 @@ client-who (suc client) code e =
 -- what is said of the answer 34: it is the last value written to the word that the log says is being read
 abbrev pub ReadRight : Type 0 → Account → Step → Answer → Type 0
 ReadRight X g t x =
-    X → number x ≡ 34 → (m : ℕ) × (y : Access) × (clientOf g t .pending ≡ accessTo m y) × (isWrite y ≡ false) × (value x ≡ g .lastWritten m (wordOf y))
+    X → number x ≡ 34 → (m : ℕ) × (y : Access) × (clientOf g t .pending ≡ accessTo m y) × (isWrite y ≡ false)
+    × (value x ≡ g .lastWritten m (wordOf y))
 
 module _ {X : Type 0} (s : State) (g : Account) (t : Step) (I : Inv X s g) where
   abbrev v : Move
@@ -157,8 +163,11 @@ module _ {X : Type 0} (s : State) (g : Account) (t : Step) (I : Inv X s g) where
         let r7 = I .r7 in
         let now = one-early (isEarly v) (rw e tt) in
         by-test D (eqb (header (s .arena) (v .from)) (flagged (v .from)))
-        (λ _. keeps k (omega arith) (omega arith) cleared (commits e (rise-is (s .control .committed) (s .control .begun) (omega arith) (I .small))))
-        (λ y. keeps k (omega arith) (omega arith) same (calls-off e (rise-is (s .control .aborted) (s .control .begun) (omega arith) (I .small)) (eqb-false (header (s .arena) (v .from)) (flagged (v .from)) y)))
+        (λ _. keeps k (omega arith) (omega arith) cleared
+        (commits e (rise-is (s .control .committed) (s .control .begun) (omega arith) (I .small))))
+        (λ y. keeps k (omega arith) (omega arith) same
+        (calls-off e (rise-is (s .control .aborted) (s .control .begun) (omega arith) (I .small))
+        (eqb-false (header (s .arena) (v .from)) (flagged (v .from)) y)))
 
     copying-word : stageOf (v .stage) ≡ copying → D (copyWord s)
     unfolding copyWord
@@ -169,7 +178,8 @@ module _ {X : Type 0} (s : State) (g : Account) (t : Step) (I : Inv X s g) where
         let up : rise (v .copied) ≡ suc (v .copied) = rise-is (v .copied) 64 (omega arith) (omega arith) in
         let head = from-word (I .core) l more 0 (omega arith) in
         by-test D (eqb (rise (v .copied)) (wordsAt (s .arena) (v .from)))
-        (λ _. keeps k (omega arith) (omega arith) cleared (fills e up head)) (λ _. keeps k (omega arith) (omega arith) same (copies e up head))
+        (λ _. keeps k (omega arith) (omega arith) cleared (fills e up head))
+        (λ _. keeps k (omega arith) (omega arith) same (copies e up head))
 
     by-stage : (n : Stage) → stageOf (v .stage) ≡ n → D (advance s n)
     by-stage idle e = refuses {n = 9} (omega arith)
@@ -196,7 +206,8 @@ module _ {X : Type 0} (s : State) (g : Account) (t : Step) (I : Inv X s g) where
         let more : s .control .begun ≢ 4294967295 = eqb-false (s .control .begun) 4294967295 (p .1 .1 .1 .1 .0) in
         let d : ℕ = lowestRun (s .control .map) (cellsAt (s .arena) c) in
         keeps {x = Begun d} k (omega arith) (omega arith) cleared (begins c d (idle-of v (p .1 .0))
-        (rise-is (s .control .begun) 4294967295 (omega (arith, I .small)) (omega arith)) (stored-head (I .core) (t .a) c refl (entry-range (I .core) (t .a) present) (flagged c)))
+        (rise-is (s .control .begun) 4294967295 (omega (arith, I .small)) (omega arith))
+        (stored-head (I .core) (t .a) c refl (entry-range (I .core) (t .a) present) (flagged c)))
 
   module _ (w : (0 < t .who) × (t .who ≤ 8)) where
     seat : pred (t .who) < 8
@@ -209,23 +220,28 @@ module _ {X : Type 0} (s : State) (g : Account) (t : Step) (I : Inv X s g) where
     unfolding atHeader
     loading y =
         by-test S (flagOf (header (s .arena) (hold (ownRow s t) (holdOf y))))
-        (λ _. acts (w .0) (w .1) (omega arith) (λ _ _. refl) (waits-on refl refl refl)) (λ _. acts (w .0) (w .1) (omega arith) (λ _ _. refl) (readies refl refl refl))
+        (λ _. acts (w .0) (w .1) (omega arith) (λ _ _. refl) (waits-on refl refl refl))
+        (λ _. acts (w .0) (w .1) (omega arith) (λ _ _. refl) (readies refl refl refl))
 
-    swapping : {c : ℕ} {y : Access} → ownRow s t .phase ≡ Waiting c y → ownRow s t .swaps < s .control .begun → S (swap (s .arena) (ownRow s t) c y)
+    swapping : {c : ℕ} {y : Access} → ownRow s t .phase ≡ Waiting c y → ownRow s t .swaps < s .control .begun
+        → S (swap (s .arena) (ownRow s t) c y)
     unfolding swap
     swapping {c} {y} e b =
         let up : rise (ownRow s t .swaps) ≡ suc (ownRow s t .swaps) = rise-is (ownRow s t .swaps) (s .control .begun) b (I .small) in
         by-test S (eqb (header (s .arena) c) (flagged c))
-        (λ _. acts (w .0) (w .1) (omega arith) (λ _ n. absurd (n refl)) (swaps refl up e refl)) (λ _. acts (w .0) (w .1) (omega arith) (λ _ n. absurd (n refl)) (swaps refl up e refl))
+        (λ _. acts (w .0) (w .1) (omega arith) (λ _ n. absurd (n refl)) (swaps refl up e refl))
+        (λ _. acts (w .0) (w .1) (omega arith) (λ _ n. absurd (n refl)) (swaps refl up e refl))
 
     finishing : (c : ℕ) (y : Access) → ownRow s t .phase ≡ Ready c y
         → ReadyIn X s g t c y → S (finish (s .arena) (ownRow s t) c y)
     finishing c (Read h i) e W =
         acts {x = Got (word (s .arena) c (2 + i))} (w .0) (w .1) (omega arith) (λ _ _. refl)
-        (ends (omega arith) (omega arith) refl e refl (λ x _. (clientOf g t .opened h, Read h i, W .asked .pending, refl, read-right s g t I seat x W)))
+        (ends (omega arith) (omega arith) refl e refl
+        (λ x _. (clientOf g t .opened h, Read h i, W .asked .pending, refl, read-right s g t I seat x W)))
     finishing c (Write h i u) e W =
         let P = spot-of s g t I seat c (Write h i u) W in
-        acts {x = Written} (w .0) (w .1) (omega arith) (λ l _. home-head (I .core) (P .0) (clientOf g t .opened h) c i u (P .1) (W .asked .fits) l)
+        acts {x = Written} (w .0) (w .1) (omega arith)
+        (λ l _. home-head (I .core) (P .0) (clientOf g t .opened h) c i u (P .1) (W .asked .fits) l)
         (ends (omega arith) (omega arith) refl e refl (λ _ z. absurd (omega arith)))
 
     going : {p : Phase} → ownRow s t .phase ≡ p → PhaseIn X s g t p → not (busy p) ≡ false → S (go (s .arena) (ownRow s t) p)
@@ -239,12 +255,15 @@ module _ {X : Type 0} (s : State) (g : Account) (t : Step) (I : Inv X s g) where
   resting : busy (ownRow s t .phase) ≡ false → ownRow s t .phase ≡ Resting
   resting b = phase-rests (row-in I t .phase) b .0
 
-  by-name : (n : Name) → (ofKeeper n ≡ true → t .who ≡ 0) → (ofClient n ≡ true → (0 < t .who) × (t .who ≤ 8)) → D (refuse (refusals n s t) (refused s) (effect n s t))
+  by-name : (n : Name) → (ofKeeper n ≡ true → t .who ≡ 0) → (ofClient n ≡ true → (0 < t .who) × (t .who ≤ 8))
+      → D (refuse (refusals n s t) (refused s) (effect n s t))
   by-name ADMIT k w = unless (refusals ADMIT s t) (effect ADMIT s t) tt (admitting (k refl))
-  by-name RETIRE k w = unless (refusals RETIRE s t) (effect RETIRE s t) tt (λ _. keeps (k refl) (omega arith) (omega arith) same (retires _ _))
+  by-name RETIRE k w = unless (refusals RETIRE s t) (effect RETIRE s t) tt
+      (λ _. keeps (k refl) (omega arith) (omega arith) same (retires _ _))
   by-name BEGIN k w = unless (refusals BEGIN s t) (effect BEGIN s t) tt (beginning (k refl))
   by-name ADVANCE k w = unless (refusals ADVANCE s t) (effect ADVANCE s t) tt (λ _. by-stage (k refl) (stageOf (v .stage)) refl)
-  by-name ATTACH k w = unless (refusals ATTACH s t) (effect ATTACH s t) tt (λ p. handled (w refl) _ refl (row-in I t .detached (p .0) .rests))
+  by-name ATTACH k w = unless (refusals ATTACH s t) (effect ATTACH s t) tt
+      (λ p. handled (w refl) _ refl (row-in I t .detached (p .0) .rests))
   by-name DETACH k w = unless (refusals DETACH s t) (effect DETACH s t) tt (λ p. handled (w refl) _ refl (resting (p .1 .0)))
   by-name OPEN k w = unless (refusals OPEN s t) (effect OPEN s t) tt (λ p. handled (w refl) _ refl (resting (p .1 .1 .1 .0)))
   by-name DROP k w = unless (refusals DROP s t) (effect DROP s t) tt (λ p. handled (w refl) _ refl (resting (p .1 .1 .0)))

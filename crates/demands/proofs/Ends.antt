@@ -40,7 +40,8 @@ one-side {v} (early l) (late y) = absurd (not-both v l y)
 one-side {v} (late y) (early l) = absurd (not-both v l y)
 one-side (late _) (late _) = refl
 
-module _ {X : Type 0} {dir map : List ℕ} {v : Move} {arena : List ℕ} {val : ℕ → ℕ → ℕ} {kind own : ℕ → ℕ} (C : Core X dir map v arena val kind own)
+module _ {X : Type 0} {dir map : List ℕ} {v : Move} {arena : List ℕ} {val : ℕ → ℕ → ℕ} {kind own : ℕ → ℕ}
+    (C : Core X dir map v arena val kind own)
     (down : Flag v (header arena (v .from)) → ⊥) {c d : ℕ} (b : Sides v c d) where
   plain-head : {m : ℕ} → HeadOK v m (entry dir m) (header arena (entry dir m)) → HeadOK noMove m (entry dir m) (header arena (entry dir m))
   plain-head (own-head p) = own-head p
@@ -48,16 +49,19 @@ module _ {X : Type 0} {dir map : List ℕ} {v : Move} {arena : List ℕ} {val : 
       let z : entry dir m ≡ v .from = ap (entry dir) p ∙ C .sides (early l) .home in
       absurd (down (l, ap (header arena) (sym z) ∙ h ∙ ap flagged z))
 
-  pub ended-core : Core X dir (putRun map d (cells (kind (v .meter))) 0) noMove arena val kind (repaint own d (cells (kind (v .meter))) none)
+  pub ended-core : Core X dir (putRun map d (cells (kind (v .meter))) 0) noMove arena val kind
+      (repaint own d (cells (kind (v .meter))) none)
   ended-core = record {
     entries256 = C .entries256;
     words8192 = C .words8192;
     is-map = run-map map d n 0 (C .is-map) (omega arith);
     entries = λ m y.
         let E = C .entries m y in
-        carry-entry E (owns-keep own d n none m (entry dir m) (cells (kind m)) (λ x p q e. omega (arith, C .sides b .owns x p q, meter-lt C m y)) (E .owns)) (plain-head (E .head)) (λ j _ _. refl);
+        carry-entry E (owns-keep own d n none m (entry dir m) (cells (kind m))
+        (λ x p q e. omega (arith, C .sides b .owns x p q, meter-lt C m y)) (E .owns)) (plain-head (E .head)) (λ j _ _. refl);
     mapped = mapped-run own map d n none 0 (C .is-map) (C .sides b .range) (omega arith) refl (C .mapped);
-    owned = λ x. repaint-cases (λ (i : ℕ). i ≢ none → Block dir noMove kind x i) own d n none x (λ _ _ e. absurd (e refl)) (λ o i. keep-block o (C .owned x i));
+    owned = λ x. repaint-cases (λ (i : ℕ). i ≢ none → Block dir noMove kind x i) own d n none x (λ _ _ e. absurd (e refl))
+        (λ o i. keep-block o (C .owned x i));
     idle = λ _. refl;
     sides = λ y. absurd (nowhere y);
     count = tt;
@@ -79,7 +83,8 @@ module _ {X : Type 0} {dir map : List ℕ} {v : Move} {arena : List ℕ} {val : 
       keep-block o (in-entry p q r) = in-entry p q r
       keep-block o (in-other b′ _ q r) = let e = one-side b b′ in absurd (o (omega arith) (omega arith))
 
-pub ended-row : {X : Type 0} {dir : List ℕ} {v : Move} {kind : ℕ → ℕ} {h h′ b : ℕ} {r : Row} {q : Client} → (Late v → r .passed ≡ true) → RowOK X dir v kind h b r q
+pub ended-row : {X : Type 0} {dir : List ℕ} {v : Move} {kind : ℕ → ℕ} {h h′ b : ℕ} {r : Row} {q : Client} → (Late v → r .passed ≡ true)
+    → RowOK X dir v kind h b r q
     → RowOK X dir noMove kind h′ b r q
 ended-row {dir = dir} {v = v} pass R = record {
   four = R .four;
@@ -108,7 +113,8 @@ module _ {X : Type 0} (s : State) (g : Account) (I : Inv X s g) where
       let l : Early v = rw e tt in
       let r7 = I .r7 in
       let now = one-early (isEarly v) l in
-      let up : rise (s .control .aborted) ≡ suc (s .control .aborted) = rise-is (s .control .aborted) (s .control .begun) (omega arith) (I .small) in
+      let up : rise (s .control .aborted) ≡ suc (s .control .aborted) = rise-is (s .control .aborted) (s .control .begun) (omega arith)
+      (I .small) in
       rw (from-kind (I .core) (early l)) (record {
         own = repaint (I .own) (v .target) (cells (g .kind (v .meter))) none;
         core = ended-core (I .core) (λ f. down (f .1)) (early l);

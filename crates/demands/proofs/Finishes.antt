@@ -44,7 +44,8 @@ pub record Spot (X : Type 0) (dir : List ℕ) (v : Move) (kind own : ℕ → ℕ
   pub side : i ≡ other → Late v × (c ≡ v .from)
   pub mine : X → i ≡ m
 
-module _ {X : Type 0} {dir map : List ℕ} {v : Move} {arena : List ℕ} {val : ℕ → ℕ → ℕ} {kind own : ℕ → ℕ} (C : Core X dir map v arena val kind own) where
+module _ {X : Type 0} {dir map : List ℕ} {v : Move} {arena : List ℕ} {val : ℕ → ℕ → ℕ} {kind own : ℕ → ℕ}
+    (C : Core X dir map v arena val kind own) where
   own-spot : {m c : ℕ} → entry dir m ≡ c → c ≢ none → Spot X dir v kind own m m c
   own-spot {m} {c} e n =
       let E : EntryOK X v arena val kind own m c = rw e at (C .entries m (λ z. n (sym e ∙ z))) in
@@ -76,14 +77,17 @@ module _ {X : Type 0} {dir map : List ℕ} {v : Move} {arena : List ℕ} {val : 
       )
 
 -- what a finished write does to the words: the heart of demand 2
-module _ {X : Type 0} {dir map : List ℕ} {v : Move} {arena : List ℕ} {val : ℕ → ℕ → ℕ} {kind own : ℕ → ℕ} (C : Core X dir map v arena val kind own)
+module _ {X : Type 0} {dir map : List ℕ} {v : Move} {arena : List ℕ} {val : ℕ → ℕ → ℕ} {kind own : ℕ → ℕ}
+    (C : Core X dir map v arena val kind own)
     (i m c w u : ℕ) (S : Spot X dir v kind own i m c) (fits : w < payload (kind m)) where
   abbrev arena′ : List ℕ
   arena′ = set arena (place c (2 + w)) u
 
   -- the words of other blocks, and the other words of this one
   else : (i′ d n j : ℕ) → Owns own i′ d n → j < 8 * n → (i ≡ i′ → (c ≡ d) × (j ≢ 2 + w)) → word arena′ d j ≡ word arena d j
-  else i′ d n j o b f = let z = real (kind m) (S .kinded) in put-else own arena i c (cells (kind m)) (2 + w) u i′ d n j (S .owns) o (omega arith) b f
+  else i′ d n j o b f =
+      let z = real (kind m) (S .kinded) in
+      put-else own arena i c (cells (kind m)) (2 + w) u i′ d n j (S .owns) o (omega arith) b f
 
   pub home-head : Early v → header arena′ (v .from) ≡ header arena (v .from)
   home-head l =
@@ -92,7 +96,8 @@ module _ {X : Type 0} {dir map : List ℕ} {v : Move} {arena : List ℕ} {val : 
       (λ y. (S .entry (v .meter) (home-in C (early l)) y ∙ C .sides (early l) .home, λ k. omega arith))
 
   target-word : Early v → (k : ℕ) → k < 8 * cells (kind (v .meter)) → word arena′ (v .target) k ≡ word arena (v .target) k
-  target-word l k b = else other (v .target) (cells (kind (v .meter))) k (C .sides (early l) .owns) b (λ y. absurd (not-both v l (S .side y .0)))
+  target-word l k b = else other (v .target) (cells (kind (v .meter))) k (C .sides (early l) .owns) b
+      (λ y. absurd (not-both v l (S .side y .0)))
 
   from-word : (l : Late v) (k : ℕ) → k < 2 → word arena′ (v .from) k ≡ word arena (v .from) k
   from-word l k b =
@@ -123,7 +128,8 @@ module _ {X : Type 0} {dir map : List ℕ} {v : Move} {arena : List ℕ} {val : 
             (λ p. same (2 + j) (omega arith) (λ e. absurd (eqb-false n m p (sym e ∙ S .mine x))) ∙ E .vals x j b);
       }
 
-  pub written-core : (X → Flag v (header arena (v .from)) → 0 < v .copied → c ≢ v .from) → Core X dir map v arena′ (update val m (update (val m) w u)) kind own
+  pub written-core : (X → Flag v (header arena (v .from)) → 0 < v .copied → c ≢ v .from)
+      → Core X dir map v arena′ (update val m (update (val m) w u)) kind own
   written-core away = record {
     entries256 = C .entries256;
     words8192 = length-set arena (place c (2 + w)) u ∙ C .words8192;
@@ -160,11 +166,13 @@ module _ {X : Type 0} (s : State) (g : Account) (t : Step) (I : Inv X s g) (seat
 
     -- the rows when the access is done, where the old header is h
     rested : (h : ℕ) → (Early (s .control .mv) → h ≡ oldHeader s) → (i : ℕ)
-        → RowOK X (s .control .dir) (s .control .mv) (g .kind) h (s .control .begun) (getD (set (s .table) (pred (t .who)) (withPhase (ownRow s t) Resting)) i freshRow)
+        → RowOK X (s .control .dir) (s .control .mv) (g .kind) h (s .control .begun)
+        (getD (set (s .table) (pred (t .who)) (withPhase (ownRow s t) Resting)) i freshRow)
         (update (g .clients) (pred (t .who)) (withPending (clientOf g t) noAccess) i)
     rested h e i =
         reflag-row (λ f. (f .0, sym (e (f .0)) ∙ f .1))
-        (set-both (RowIn X s g) (s .table) (g .clients) (pred (t .who)) (withPhase (ownRow s t) Resting) (withPending (clientOf g t) noAccess) freshRow (omega (arith, I .eight))
+        (set-both (RowIn X s g) (s .table) (g .clients) (pred (t .who)) (withPhase (ownRow s t) Resting)
+        (withPending (clientOf g t) noAccess) freshRow (omega (arith, I .eight))
         (record {
           four = R .four;
           holds = R .holds;
@@ -214,4 +222,5 @@ module _ {X : Type 0} (s : State) (g : Account) (t : Step) (I : Inv X s g) (seat
       → word (s .arena) c (2 + wordOf x) ≡ g .lastWritten (clientOf g t .opened (holdOf x)) (wordOf x)
   read-right {c} {x} y W =
       let e = W .newest y in
-      rw (← e) (I .core .entries (clientOf g t .opened (holdOf x)) (held-in (I .core) (R .holds (holdOf x)) (W .asked .filled)) .vals y (wordOf x) (W .asked .fits))
+      rw (← e) (I .core .entries (clientOf g t .opened (holdOf x)) (held-in (I .core) (R .holds (holdOf x)) (W .asked .filled)) .vals y
+      (wordOf x) (W .asked .fits))

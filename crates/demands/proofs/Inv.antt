@@ -140,6 +140,7 @@ pub record Inv (X : Type 0) (s : State) (g : Account) : Type 0 where
   pub own : ℕ → ℕ
   pub core : Core X (s .control .dir) (s .control .map) (s .control .mv) (s .arena) (g .lastWritten) (g .kind) own
   pub eight : length (s .table) ≡ 8
-  pub rows : Rows X (s .control .dir) (s .control .mv) (g .kind) (header (s .arena) (s .control .mv .from)) (s .control .begun) (s .table) (g .clients)
+  pub rows : Rows X (s .control .dir) (s .control .mv) (g .kind) (header (s .arena) (s .control .mv .from)) (s .control .begun)
+      (s .table) (g .clients)
   pub r7 : s .control .begun ≡ s .control .committed + s .control .aborted + one (isEarly (s .control .mv))
   pub small : s .control .begun < 2 ^ 32

@@ -14,5 +14,6 @@ Good X n g t o = Inv X (o .next) (told n g t (o .answer))
 abbrev pub Keeps : Type 0 → Name → State → Account → Step → Type 0
 Keeps X n s g t = Good X n g t (refuse (refusals n s t) (refused s) (effect n s t))
 
-pub keeps : {X : Type 0} (n : Name) (s : State) (g : Account) (t : Step) → Inv X s g → (Passed (refusals n s t) → Good X n g t (effect n s t)) → Keeps X n s g t
+pub keeps : {X : Type 0} (n : Name) (s : State) (g : Account) (t : Step) → Inv X s g
+    → (Passed (refusals n s t) → Good X n g t (effect n s t)) → Keeps X n s g t
 keeps {X} n s g t I = unless-refused (Good X n g t) (refusals n s t) (refused s) (effect n s t) (λ _. I)

@@ -30,7 +30,8 @@ did-right (keeps _ _ b _ _) n = absurd (omega arith)
 did-right (acts _ _ _ _ u) n = turn-right u n
 
 pub read-finished : (l : List Step) (t : Step) → number (act (after l) t .answer) ≡ 34
-    → (m : ℕ) × (x : Access) × (clientOf (said (log l)) t .pending ≡ accessTo m x) × (isWrite x ≡ false) × (value (act (after l) t .answer) ≡ said (log l) .lastWritten m (wordOf x))
+    → (m : ℕ) × (x : Access) × (clientOf (said (log l)) t .pending ≡ accessTo m x) × (isWrite x ≡ false)
+    × (value (act (after l) t .answer) ≡ said (log l) .lastWritten m (wordOf x))
 read-finished l t e = did-right (did (after l) (said (log l)) t (always {X = Unit {0}} l)) e tt e
 
 pub reads-last-written : (l : List Step) (t : Step) → number (act (after l) t .answer) ≡ 34

@@ -33,7 +33,8 @@ and-false false = refl
 
 module _ {A : Type 0} where
   -- after a store: the new value there, the old one elsewhere
-  pub set-cases : (P : ℕ → A → Type 0) (l : List A) (i : ℕ) (a d : A) → i < length l → P i a → ((j : ℕ) → j ≢ i → P j (getD l j d)) → (j : ℕ) → P j (getD (set l i a) j d)
+  pub set-cases : (P : ℕ → A → Type 0) (l : List A) (i : ℕ) (a d : A) → i < length l → P i a → ((j : ℕ) → j ≢ i → P j (getD l j d))
+      → (j : ℕ) → P j (getD (set l i a) j d)
   set-cases P l i a d h new old j =
       ⊎-elim (λ (e : j ≡ i). subst⁻¹ (λ (n : ℕ). P n (getD (set l i a) n d)) e (subst⁻¹ (P i) (getD-set-same l i a d h) new))
       (λ (ne : j ≢ i). subst⁻¹ (P j) (getD-set-other l i j a d ne) (old j ne)) (same-or-not j i)

@@ -41,39 +41,57 @@ ToldIn s l = MovesTold (s .control .begun) (s .control .committed) (s .control .
 pub answered-other : (t : Step) (x : Answer) (l : Log) (n : ℕ) → number x ≢ n → answered n (line t x ∷ l) ≡ answered n l
 answered-other t x l n h = rw (ne-eqb (number x) n h) (omega arith)
 
-no-work : (t : Step) (x : Answer) (l : Log) → number x ≢ 21 → (23 ≤ number x → number x ≤ 27 → ⊥) → workingSteps (line t x ∷ l) ≡ workingSteps l
+no-work : (t : Step) (x : Answer) (l : Log) → number x ≢ 21 → (23 ≤ number x → number x ≤ 27 → ⊥)
+    → workingSteps (line t x ∷ l) ≡ workingSteps l
 no-work t x l h n =
     rw (ne-eqb (number x) 21 h)
-    (by-test (λ (k : ℕ). k ≡ workingSteps l) (leb 23 (number x) and leb (number x) 27) (λ e. let b = and-parts (leb 23 (number x)) (leb (number x) 27) e in absurd (n (leb-true 23 (number x) (b .0)) (leb-true (number x) 27 (b .1)))) (λ _. refl))
+    (by-test (λ (k : ℕ). k ≡ workingSteps l) (leb 23 (number x) and leb (number x) 27)
+    (λ e. let b = and-parts (leb 23 (number x)) (leb (number x) 27) e in
+    absurd (n (leb-true 23 (number x) (b .0)) (leb-true (number x) 27 (b .1)))) (λ _. refl))
 
 -- a line that says nothing of moves
-silent : {b c a : ℕ} {v : Move} {l : Log} (t : Step) (x : Answer) → number x ≢ 21 → (23 ≤ number x → number x ≤ 27 → ⊥) → MovesTold b c a v l → MovesTold b c a v (line t x ∷ l)
+silent : {b c a : ℕ} {v : Move} {l : Log} (t : Step) (x : Answer) → number x ≢ 21 → (23 ≤ number x → number x ≤ 27 → ⊥)
+    → MovesTold b c a v l → MovesTold b c a v (line t x ∷ l)
 silent {v = v} {l = l} t x h n m = record {
-  counts = let k = m .counts in
-      (k .0 ∙ sym (answered-other t x l 21 h), k .1 ∙ sym (answered-other t x l 25 (λ e. n (omega arith) (omega arith))), k .2 ∙ sym (answered-other t x l 26 (λ e. n (omega arith) (omega arith))));
+  counts = (
+    m .counts .0 ∙ sym (answered-other t x l 21 h),
+    m .counts .1 ∙ sym (answered-other t x l 25 (λ e. n (omega arith) (omega arith))),
+    m .counts .2 ∙ sym (answered-other t x l 26 (λ e. n (omega arith) (omega arith))),
+  );
   work = rw (no-work t x l h n) (m .work);
   meter = rw (ne-eqb (number x) 21 h) (m .meter);
 }
 
 -- what the stage says
-work-at : {b c a : ℕ} {v : Move} {l : Log} → MovesTold b c a v l → (g : Stage) → stageOf (v .stage) ≡ g → Work g (v .copied) (workingSteps l)
+work-at : {b c a : ℕ} {v : Move} {l : Log} → MovesTold b c a v l → (g : Stage) → stageOf (v .stage) ≡ g
+    → Work g (v .copied) (workingSteps l)
 work-at {v = v} {l = l} m g e = subst (λ (x : Stage). Work x (v .copied) (workingSteps l)) e (m .work)
 
-meter-at : {b c a : ℕ} {v : Move} {l : Log} → MovesTold b c a v l → (g : Stage) → stageOf (v .stage) ≡ g → T (inHand g) → v .meter ≡ lastMoved l
+meter-at : {b c a : ℕ} {v : Move} {l : Log} → MovesTold b c a v l → (g : Stage) → stageOf (v .stage) ≡ g → T (inHand g)
+    → v .meter ≡ lastMoved l
 meter-at {v = v} m g e i = m .meter (rw e i)
 
 kept-told : {s s′ : State} {t : Step} {x : Answer} {l : Log} → Kept s t x s′ → ToldIn s l → ToldIn s′ (line t x ∷ l)
 kept-told {t = t} (admits a k c _) m = silent t (Admitted c) (omega arith) (omega arith) m
 kept-told {t = t} (retires _ _) m = silent t (Done 0) (omega arith) (omega arith) m
 kept-told (begins c d _ up _) m = record { counts = omega arith; work = refl; meter = λ _. refl }
-kept-told (starts e z) m = record { counts = omega arith; work = omega (arith, work-at m firstBarrier e); meter = meter-at m firstBarrier e }
+kept-told (starts e z) m = record {
+  counts = omega arith;
+  work = omega (arith, work-at m firstBarrier e);
+  meter = meter-at m firstBarrier e;
+}
 kept-told (copies e up _) m = record { counts = omega arith; work = omega (arith, work-at m copying e); meter = meter-at m copying e }
 kept-told (fills e up _) m = record { counts = omega arith; work = omega (arith, work-at m copying e); meter = meter-at m copying e }
-kept-told (commits e up) m = record { counts = omega arith; work = omega (arith, work-at m secondBarrier e); meter = meter-at m secondBarrier e }
+kept-told (commits e up) m = record {
+  counts = omega arith;
+  work = omega (arith, work-at m secondBarrier e);
+  meter = meter-at m secondBarrier e;
+}
 kept-told (calls-off e up _) m = record { counts = omega arith; work = tt; meter = λ z. absurd z }
 kept-told (gives-back e) m = record { counts = omega arith; work = tt; meter = λ z. absurd z }
 
-did-told : {Right : Answer → Type 0} {s : State} {t : Step} {o : Outcome} {l : Log} → Did Right s t o → ToldIn s l → ToldIn (o .next) (line t (o .answer) ∷ l)
+did-told : {Right : Answer → Type 0} {s : State} {t : Step} {o : Outcome} {l : Log} → Did Right s t o → ToldIn s l
+    → ToldIn (o .next) (line t (o .answer) ∷ l)
 did-told {t = t} (refuses {n = n} b) m = silent t (Refused n) (omega arith) (omega arith) m
 did-told {t = t} (stays _) m = silent t BarrierOpen (omega arith) (omega arith) m
 did-told (keeps _ _ _ _ k) m = kept-told k m
@@ -102,15 +120,24 @@ abbrev Worked : ℕ → ℕ → ℕ → Type 0
 Worked x n w = (x ≡ 25 → w ≡ n + 3) × (x ≡ 26 → w ≡ n + 3) × (x ≡ 27 → w ≡ n + 4)
 
 unworked : (x n w : ℕ) → (25 ≤ x → x ≤ 27 → ⊥) → Worked x n w
-unworked x n w h = (λ e. absurd (h (omega arith) (omega arith)), λ e. absurd (h (omega arith) (omega arith)), λ e. absurd (h (omega arith) (omega arith)))
+unworked x n w h = (λ e. absurd (none (omega arith)), λ e. absurd (none (omega arith)), λ e. absurd (none (omega arith)))
+  where
+    none : (25 ≤ x) × (x ≤ 27) → ⊥
+    none b = h (b .0) (b .1)
 
 module _ {X : Type 0} {s : State} {g : Account} {l : Log} (I : Inv X s g) (m : ToldIn s l) where
   abbrev n : ℕ
   n = words (g .kind (lastMoved l))
 
+  moved-words : (b : Stage) → stageOf (s .control .mv .stage) ≡ b → T (inHand b) → words (g .kind (s .control .mv .meter)) ≡ n
+  moved-words b e i = ap (λ (k : ℕ). words (g .kind k)) (meter-at m b e i)
+
   -- at the second and third barrier as many words are copied as the moved record has
-  all-copied : (b : Stage) → stageOf (s .control .mv .stage) ≡ b → T (inHand b) → words (g .kind (s .control .mv .meter)) ≡ n
-  all-copied b e i = ap (λ (k : ℕ). words (g .kind k)) (meter-at m b e i)
+  at-second : stageOf (s .control .mv .stage) ≡ secondBarrier → workingSteps l ≡ 2 + n
+  at-second e = omega (arith, work-at m secondBarrier e, count-at s g I secondBarrier e, moved-words secondBarrier e tt)
+
+  at-third : stageOf (s .control .mv .stage) ≡ thirdBarrier → workingSteps l ≡ 3 + n
+  at-third e = omega (arith, work-at m thirdBarrier e, count-at s g I thirdBarrier e, moved-words thirdBarrier e tt)
 
   kept-worked : {s′ : State} {t : Step} {x : Answer} → Kept s t x s′ → Worked (number x) n (workingSteps (line t x ∷ l))
   kept-worked (admits _ _ _ _) = unworked 20 n _ (λ p q. omega arith)
@@ -119,15 +146,29 @@ module _ {X : Type 0} {s : State} {g : Account} {l : Log} (I : Inv X s g) (m : T
   kept-worked (starts _ _) = unworked 23 n _ (λ p q. omega arith)
   kept-worked (copies _ _ _) = unworked 24 n _ (λ p q. omega arith)
   kept-worked (fills _ _ _) = unworked 24 n _ (λ p q. omega arith)
-  kept-worked (commits e _) = let w = work-at m secondBarrier e in let c = count-at s g I secondBarrier e in let z = all-copied secondBarrier e tt in omega arith
-  kept-worked (calls-off e _ _) = let w = work-at m secondBarrier e in let c = count-at s g I secondBarrier e in let z = all-copied secondBarrier e tt in omega arith
-  kept-worked (gives-back e) = let w = work-at m thirdBarrier e in let c = count-at s g I thirdBarrier e in let z = all-copied thirdBarrier e tt in omega arith
+  kept-worked (commits e _) = omega (arith, at-second e)
+  kept-worked (calls-off e _ _) = omega (arith, at-second e)
+  kept-worked (gives-back e) = omega (arith, at-third e)
 
-  did-worked : {Right : Answer → Type 0} {t : Step} {o : Outcome} → Did Right s t o → Worked (number (o .answer)) n (workingSteps (line t (o .answer) ∷ l))
+  did-worked : {Right : Answer → Type 0} {t : Step} {o : Outcome} → Did Right s t o
+      → Worked (number (o .answer)) n (workingSteps (line t (o .answer) ∷ l))
   did-worked (refuses {n = k} b) = unworked k n _ (λ p q. omega arith)
   did-worked (stays _) = unworked 22 n _ (λ p q. omega arith)
   did-worked (keeps _ _ _ _ k) = kept-worked k
   did-worked (acts {x = x} _ _ b _ _) = unworked (number x) n _ (λ p q. omega arith)
 
-pub working-steps : (l : List Step) (t : Step) → Worked (number (act (after l) t .answer)) (words (said (log l) .kind (lastMoved (log l)))) (workingSteps (log (t ∷ l)))
-working-steps l t = did-worked (always {X = ⊥} l) (told l) (did (after l) (said (log l)) t (always {X = ⊥} l))
+ended : (l : List Step) (t : Step)
+    → Worked (number (act (after l) t .answer)) (words (said (log l) .kind (lastMoved (log l)))) (workingSteps (log (t ∷ l)))
+ended l t = did-worked (always {X = ⊥} l) (told l) (did (after l) (said (log l)) t (always {X = ⊥} l))
+
+pub commit-takes : (l : List Step) (t : Step) → number (act (after l) t .answer) ≡ 25
+    → workingSteps (log (t ∷ l)) ≡ words (said (log l) .kind (lastMoved (log l))) + 3
+commit-takes l t = ended l t .0
+
+pub call-off-takes : (l : List Step) (t : Step) → number (act (after l) t .answer) ≡ 26
+    → workingSteps (log (t ∷ l)) ≡ words (said (log l) .kind (lastMoved (log l))) + 3
+call-off-takes l t = ended l t .1
+
+pub give-back-takes : (l : List Step) (t : Step) → number (act (after l) t .answer) ≡ 27
+    → workingSteps (log (t ∷ l)) ≡ words (said (log l) .kind (lastMoved (log l))) + 4
+give-back-takes l t = ended l t .2

@@ -82,7 +82,8 @@ reflag-row f R = record {
 }
 
 -- marks: a row with another mark, which an unattached one keeps; a table with its marks cleared; a table whose rows have all passed
-pub marked : (r : Row) (p : Bool) → (r .attached ≡ false → p ≡ true) → (r .attached ≡ false → Detached r) → r .attached ≡ false → Detached (withPassed r p)
+pub marked : (r : Row) (p : Bool) → (r .attached ≡ false → p ≡ true) → (r .attached ≡ false → Detached r) → r .attached ≡ false
+    → Detached (withPassed r p)
 marked r p e d z = record { passed = e z; empty = d z .empty; rests = d z .rests }
 
 pub cleared-passed : (r : Row) → r .attached ≡ false → not (r .attached) ≡ true
@@ -102,7 +103,8 @@ module _ {X : Type 0} {s : State} {g : Account} (I : Inv X s g) where
   row-in t = I .rows (pred (t .who))
 
   -- a row without holds that rests, of a client that has opened nothing
-  pub empty-row : (r : Row) → ((i : ℕ) → hold r i ≡ none) → length (r .holds) ≡ 4 → r .passed ≡ true → r .phase ≡ Resting → r .swaps ≤ s .control .begun
+  pub empty-row : (r : Row) → ((i : ℕ) → hold r i ≡ none) → length (r .holds) ≡ 4 → r .passed ≡ true → r .phase ≡ Resting
+      → r .swaps ≤ s .control .begun
       → (Flag (s .control .mv) (header (s .arena) (s .control .mv .from)) → r .swaps < s .control .begun) → RowIn X s g r newClient
   empty-row r n f p e le lt = record {
     four = f;
@@ -133,5 +135,6 @@ module _ {X : Type 0} {s : State} {g : Account} (I : Inv X s g) where
       eight = length-set (s .table) (pred (t .who)) r ∙ I .eight;
       r7 = I .r7;
       small = I .small;
-      rows = set-cases (λ j x. RowIn X s g x (g .clients j)) (s .table) (pred (t .who)) r freshRow (omega (arith, I .eight)) ok (λ j _. I .rows j);
+      rows = set-cases (λ j x. RowIn X s g x (g .clients j)) (s .table) (pred (t .who)) r freshRow (omega (arith, I .eight)) ok
+          (λ j _. I .rows j);
     }

@@ -66,13 +66,15 @@ record SwapsTold (k : List Row) (l : Log) : Type 0 where
   pub slots : (i : ℕ) → getD k i freshRow .swaps ≡ answeredTo (suc i) 33 l
   pub sum : total swapsOf k ≡ answered 33 l
 
-unswapped : {k k′ : List Row} {l : Log} (t : Step) (x : Answer) → SameRows k k′ → number x ≢ 33 → SwapsTold k l → SwapsTold k′ (line t x ∷ l)
+unswapped : {k k′ : List Row} {l : Log} (t : Step) (x : Answer) → SameRows k k′ → number x ≢ 33 → SwapsTold k l
+    → SwapsTold k′ (line t x ∷ l)
 unswapped {l = l} t x r n m = record {
   slots = λ i. same-swaps r i ∙ m .slots i ∙ sym (rw (ne-eqb (number x) 33 n, and-false (eqb (t .who) (suc i))) (omega arith));
   sum = same-total r ∙ m .sum ∙ sym (answered-other t x l 33 n);
 }
 
-did-told : {Right : Answer → Type 0} {s : State} {t : Step} {o : Outcome} {l : Log} → length (s .table) ≡ 8 → Did Right s t o → SwapsTold (s .table) l
+did-told : {Right : Answer → Type 0} {s : State} {t : Step} {o : Outcome} {l : Log} → length (s .table) ≡ 8 → Did Right s t o
+    → SwapsTold (s .table) l
     → SwapsTold (o .next .table) (line t (o .answer) ∷ l)
 did-told {t = t} e (refuses {n = n} b) m = unswapped t (Refused n) same (omega arith) m
 did-told {t = t} e (stays _) m = unswapped t BarrierOpen same (omega arith) m
@@ -93,7 +95,8 @@ record Swapped (s : State) : Type 0 where
   pub off : s .control .aborted ≤ total swapsOf (s .table)
   pub gone : Early (s .control .mv) → oldHeader s ≢ flagged (s .control .mv .from) → s .control .aborted < total swapsOf (s .table)
 
-kept-swapped : {s s′ : State} {t : Step} {x : Answer} → total swapsOf (s′ .table) ≡ total swapsOf (s .table) → Kept s t x s′ → Swapped s → Swapped s′
+kept-swapped : {s s′ : State} {t : Step} {x : Answer} → total swapsOf (s′ .table) ≡ total swapsOf (s .table) → Kept s t x s′ → Swapped s
+    → Swapped s′
 kept-swapped e (admits _ _ _ h) m = record { off = m .off; gone = λ l n. m .gone l (λ z. n (h l ∙ z)) }
 kept-swapped e (retires _ _) m = record { off = m .off; gone = m .gone }
 kept-swapped e (begins _ _ _ _ h) m = record { off = omega arith; gone = λ _ n. absurd (n h) }
@@ -104,7 +107,8 @@ kept-swapped e (commits _ _) m = record { off = omega arith; gone = λ z. absurd
 kept-swapped e (calls-off d up n) m = record { off = omega (arith, m .gone (rw d tt) n); gone = λ z. absurd z }
 kept-swapped e (gives-back _) m = record { off = m .off; gone = λ z. absurd z }
 
-did-swapped : {Right : Answer → Type 0} {s : State} {t : Step} {o : Outcome} → length (s .table) ≡ 8 → Did Right s t o → Swapped s → Swapped (o .next)
+did-swapped : {Right : Answer → Type 0} {s : State} {t : Step} {o : Outcome} → length (s .table) ≡ 8 → Did Right s t o → Swapped s
+    → Swapped (o .next)
 did-swapped e (refuses _) m = m
 did-swapped e (stays _) m = m
 did-swapped e (keeps _ _ _ r k) m = kept-swapped (same-total r) k m

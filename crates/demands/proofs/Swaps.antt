@@ -30,7 +30,8 @@ use Rattle.demands.proofs.Entries.{stored-head, stored-else, stored-ent
 use Rattle.demands.proofs.RowLaws.{oldHeader, WaitingIn, RowIn, reflag-row, row-in, reseat-row}
 
 -- the flag goes from the moved record's header
-module _ {X : Type 0} {dir map : List ℕ} {v : Move} {arena : List ℕ} {val : ℕ → ℕ → ℕ} {kind own : ℕ → ℕ} (C : Core X dir map v arena val kind own) (l : Early v) where
+module _ {X : Type 0} {dir map : List ℕ} {v : Move} {arena : List ℕ} {val : ℕ → ℕ → ℕ} {kind own : ℕ → ℕ}
+    (C : Core X dir map v arena val kind own) (l : Early v) where
   pub no-flag : Flag v (header (set arena (place (v .from) 0) (plain (v .from))) (v .from)) → ⊥
   no-flag f = let S = C .sides (early l) in omega (arith, f .1, stored-head C (v .meter) (v .from) (S .home) (S .inside) (plain (v .from)))
 
@@ -38,14 +39,17 @@ module _ {X : Type 0} {dir map : List ℕ} {v : Move} {arena : List ℕ} {val : 
   called-off =
       let S = C .sides (early l) in
       let z = home-real C (early l) in
-      let same : (j : ℕ) → j < 8 * cells (kind (v .meter)) → word (set arena (place (v .from) 0) (plain (v .from))) (v .target) j ≡ word arena (v .target) j =
-      λ j b. stored-else C (v .meter) (v .from) (S .home) (S .inside) (plain (v .from)) other (v .target) (cells (kind (v .meter))) j (S .owns) b
+      let same : (j : ℕ) → j < 8 * cells (kind (v .meter))
+      → word (set arena (place (v .from) 0) (plain (v .from))) (v .target) j ≡ word arena (v .target) j =
+      λ j b. stored-else C (v .meter) (v .from) (S .home) (S .inside) (plain (v .from)) other (v .target) (cells (kind (v .meter))) j
+      (S .owns) b
       (λ e. absurd (omega (arith, home-lt C (early l)))) in
       record {
         entries256 = C .entries256;
         words8192 = length-set arena (place (v .from) 0) (plain (v .from)) ∙ C .words8192;
         is-map = C .is-map;
-        entries = λ m n. stored-entry C (v .meter) (v .from) (S .home) (S .inside) (plain (v .from)) m n (C .entries m n .owns) (λ _. own-head refl) (λ _ k. k);
+        entries = λ m n. stored-entry C (v .meter) (v .from) (S .home) (S .inside) (plain (v .from)) m n (C .entries m n .owns)
+            (λ _. own-head refl) (λ _ k. k);
         mapped = C .mapped;
         owned = C .owned;
         idle = C .idle;
@@ -99,9 +103,12 @@ module _ {X : Type 0} (s : State) (g : Account) (t : Step) (I : Inv X s g) (seat
         r7 = I .r7;
         small = I .small;
         rows = set-cases
-            (λ j y. RowOK X (s .control .dir) (s .control .mv) (g .kind) (header (set (s .arena) (place (s .control .mv .from) 0) (plain (s .control .mv .from))) (s .control .mv .from)) (s .control .begun) y (g .clients j))
+            (λ j y. RowOK X (s .control .dir) (s .control .mv) (g .kind)
+            (header (set (s .arena) (place (s .control .mv .from) 0) (plain (s .control .mv .from))) (s .control .mv .from))
+            (s .control .begun) y (g .clients j))
             (s .table) (pred (t .who)) _ freshRow (omega (arith, I .eight))
-            (at-entry-now (header (set (s .arena) (place (s .control .mv .from) 0) (plain (s .control .mv .from))) (s .control .mv .from)) (s .control .mv .from) (rw (← o) p) (λ k. absurd (no-flag (I .core) l k)))
+            (at-entry-now (header (set (s .arena) (place (s .control .mv .from) 0) (plain (s .control .mv .from)))
+            (s .control .mv .from)) (s .control .mv .from) (rw (← o) p) (λ k. absurd (no-flag (I .core) l k)))
             (λ j _. reflag-row (λ k. absurd (no-flag (I .core) l k)) (I .rows j));
       }))
       (λ y. absurd (eqb-false (header (s .arena) c) (flagged c) y e))

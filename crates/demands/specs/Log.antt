@@ -160,7 +160,8 @@ lastMoved (x ∷ l) = pick (eqb (number (x .answer)) 21) (x .step .a) (lastMoved
 -- the answers of a client's own accepted steps, the last first
 abbrev pub ownAnswers : ℕ → Log → List ℕ
 ownAnswers who [] = []
-ownAnswers who (x ∷ l) = pick (eqb (x .step .who) who and leb 20 (number (x .answer))) (number (x .answer) ∷ ownAnswers who l) (ownAnswers who l)
+ownAnswers who (x ∷ l) = pick (eqb (x .step .who) who and leb 20 (number (x .answer))) (number (x .answer) ∷ ownAnswers who l)
+    (ownAnswers who l)
 
 -- how many of them there are back to the READ or WRITE that was answered last
 abbrev pub sinceAsked : List ℕ → ℕ
