@@ -21,7 +21,8 @@ use Rattle.model.specs.Steps.{Step, act}
 use Rattle.demands.specs.Log.{line, Log, after, log, said, ownAnswers, sinceAsked}
 use Rattle.demands.proofs.Lists.{getD-fresh, set-cases, and-false}
 use Rattle.demands.proofs.RowLaws.{cleared-get}
-use Rattle.demands.proofs.Did.{Turn, handles, readies, waits-on, swaps, ends, SameRows, same, cleared, Did, refuses, stays, keeps, acts, did}
+use Rattle.demands.proofs.Did.{Turn, handles, readies, waits-on, swaps, ends, SameRows, same, cleared, Did, refuses, stays, keeps}
+use Rattle.demands.proofs.Did.{acts, did}
 use Rattle.demands.proofs.Always.{always}
 
 -- what a client has heard, the last first, when its access can be done: 31, or 32 and then 33

@@ -29,7 +29,8 @@ use Rattle.demands.proofs.Stages.{Idle, idle-of, idle-early, idle-late}
 use Rattle.demands.proofs.Lists.{getD-in, set-cases, any-get}
 use Rattle.demands.proofs.Owners.{other, Owns, repaint, repaint-cases, repaint-in, owns-keep, mapped-run, run-unowned}
 use Rattle.demands.proofs.Words.{laid-else}
-use Rattle.demands.proofs.Inv.{HoldOK, empty, here, was, Place, at-entry, at-hold, Asked, RowOK, own-head, EntryOK, Sides, early, late, SidesOK, Block, in-entry, in-other, Count, Core, Inv}
+use Rattle.demands.proofs.Inv.{HoldOK, empty, here, was, Place, at-entry, at-hold, Asked, RowOK, own-head, EntryOK, Sides, early}
+use Rattle.demands.proofs.Inv.{late, SidesOK, Block, in-entry, in-other, Count, Core, Inv}
 use Rattle.demands.proofs.Blocks.{meter-lt, entry-range, home-in, home-lt, home-entry, home-real, copied-fit, held-in, held-kind}
 use Rattle.demands.proofs.Entries.{carry-entry, same-account}
 use Rattle.demands.proofs.RowLaws.{carry-phase, reflag-row}

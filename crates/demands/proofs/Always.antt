@@ -11,7 +11,8 @@ use Rattle.model.specs.Records.{none, header}
 use Rattle.model.specs.Rows.{freshRow}
 use Rattle.model.specs.State.{State, noMove}
 use Rattle.model.specs.Fresh.{fresh}
-use Rattle.model.specs.Steps.{Step, Name, ADMIT, RETIRE, BEGIN, ADVANCE, ATTACH, DETACH, OPEN, DROP, READ, WRITE, GO, REST, UNKNOWN, NOBODY, named, nameOf, act}
+use Rattle.model.specs.Steps.{Step, Name, ADMIT, RETIRE, BEGIN, ADVANCE, ATTACH, DETACH, OPEN, DROP, READ, WRITE, GO, REST, UNKNOWN}
+use Rattle.model.specs.Steps.{NOBODY, named, nameOf, act}
 use Rattle.model.proofs.Choice.{by-test}
 use Rattle.model.proofs.CellMap.{fresh-map, fresh-free}
 use Rattle.demands.specs.Log.{Account, newClient, newAccount, after, log, said}

@@ -24,7 +24,8 @@ use Rattle.model.proofs.Counts.{rise-is}
 use Rattle.demands.specs.Log.{Client, Account}
 use Rattle.demands.proofs.Stages.{Idle, idle-of, idle-early, idle-late}
 use Rattle.demands.proofs.Owners.{other, repaint, repaint-cases, repaint-in, owns-keep, mapped-run, run-unowned}
-use Rattle.demands.proofs.Inv.{HoldOK, empty, here, was, RowOK, HeadOK, own-head, flag-head, Sides, early, late, SidesOK, Block, in-entry, in-other, Core, Inv}
+use Rattle.demands.proofs.Inv.{HoldOK, empty, here, was, RowOK, HeadOK, own-head, flag-head, Sides, early, late, SidesOK, Block}
+use Rattle.demands.proofs.Inv.{in-entry, in-other, Core, Inv}
 use Rattle.demands.proofs.Blocks.{meter-lt, entry-range, held-kind}
 use Rattle.demands.proofs.Entries.{stored-entry}
 use Rattle.demands.proofs.RowLaws.{one-not, carry-phase, marked, cleared-passed, cleared-get}

@@ -11,7 +11,8 @@ use borrow.Author.Tests.{eqb-true, eqb-false, ltb-true, ltb-false, not-true, not
 use Rattle.model.specs.declared.Access.{Access}
 use Rattle.model.specs.declared.Access.the-variants.{Read, Write}
 use Rattle.model.specs.declared.Answer.{Answer}
-use Rattle.model.specs.declared.Answer.the-variants.{Admitted, Begun, BarrierOpen, CopyingStarts, Copied, Committed, CalledOff, GivenBack, Done, Got, Written}
+use Rattle.model.specs.declared.Answer.the-variants.{Admitted, Begun, BarrierOpen, CopyingStarts, Copied, Committed, CalledOff, GivenBack}
+use Rattle.model.specs.declared.Answer.the-variants.{Done, Got, Written}
 use Rattle.model.specs.declared.Phase.{Phase}
 use Rattle.model.specs.declared.Phase.the-variants.{Resting, Ready, Waiting}
 use Rattle.model.specs.declared.Row.{Row}
@@ -21,13 +22,16 @@ use Rattle.model.specs.Kinds.{cells}
 use Rattle.model.specs.Records.{none, place, word, header, flagged, flagOf, cellsAt, wordsAt}
 use Rattle.model.specs.CellMap.{lowestRun}
 use Rattle.model.specs.Rows.{holdOf, wordOf, isWrite, busy, hold, clearMarks, allPassed}
-use Rattle.model.specs.State.{Stage, idle, firstBarrier, copying, secondBarrier, thirdBarrier, stageOf, rise, entry, State, withArena, withRow}
+use Rattle.model.specs.State.{Stage, idle, firstBarrier, copying, secondBarrier, thirdBarrier, stageOf, rise, entry, State, withArena}
+use Rattle.model.specs.State.{withRow}
 use Rattle.model.specs.Answers.{number, value, Outcome, outcome}
-use Rattle.model.specs.KeeperSteps.{admit, retire, begin, barrier, startCopying, copied, copyWord, commit, callOff, settle, giveBack, advance}
+use Rattle.model.specs.KeeperSteps.{admit, retire, begin, barrier, startCopying, copied, copyWord, commit, callOff, settle, giveBack}
+use Rattle.model.specs.KeeperSteps.{advance}
 use Rattle.model.specs.ClientSteps.{atHeader, loadHeader, swap, finish, go}
 use Rattle.model.specs.Rules.{isEarly}
 use Rattle.model.specs.Refusals.{Refusal, refuse}
-use Rattle.model.specs.Steps.{Step, Name, ADMIT, RETIRE, BEGIN, ADVANCE, ATTACH, DETACH, OPEN, DROP, READ, WRITE, GO, REST, UNKNOWN, NOBODY, keeperCodes, clientCodes, named, nameOf, ownRow, refusals, seated, effect, refused, act}
+use Rattle.model.specs.Steps.{Step, Name, ADMIT, RETIRE, BEGIN, ADVANCE, ATTACH, DETACH, OPEN, DROP, READ, WRITE, GO, REST, UNKNOWN}
+use Rattle.model.specs.Steps.{NOBODY, keeperCodes, clientCodes, named, nameOf, ownRow, refusals, seated, effect, refused, act}
 use Rattle.model.proofs.Choice.{by-test, clash}
 use Rattle.model.proofs.ByKind.{real}
 use Rattle.model.proofs.CellMap.{lowest-free}

@@ -29,7 +29,8 @@ use Rattle.demands.proofs.Stages.{Early, Late, not-both}
 use Rattle.demands.proofs.Lists.{set-both}
 use Rattle.demands.proofs.Owners.{other, Owns}
 use Rattle.demands.proofs.Words.{put-at, put-else}
-use Rattle.demands.proofs.Inv.{Flag, HoldOK, empty, here, was, Place, at-entry, at-hold, rests, ready, waits, RowOK, EntryOK, early, late, Core, Inv}
+use Rattle.demands.proofs.Inv.{Flag, HoldOK, empty, here, was, Place, at-entry, at-hold, rests, ready, waits, RowOK, EntryOK}
+use Rattle.demands.proofs.Inv.{early, late, Core, Inv}
 use Rattle.demands.proofs.Blocks.{meter-lt, home-in, home-entry, home-real, side-apart, copied-fit, first-uncopied, held-in}
 use Rattle.demands.proofs.Keeping.{Keeps, keeps}
 use Rattle.demands.proofs.RowLaws.{oldHeader, PhaseIn, ReadyIn, RowIn, reflag-row, row-in}

@@ -18,7 +18,8 @@ use Rattle.model.specs.Steps.{Step, act}
 use Rattle.model.proofs.Choice.{by-test, and-parts}
 use Rattle.demands.specs.Log.{line, Log, Account, after, log, said, answered, workingSteps, lastMoved}
 use Rattle.demands.proofs.Inv.{Inv}
-use Rattle.demands.proofs.Did.{Did, refuses, stays, keeps, acts, Kept, admits, retires, begins, starts, copies, fills, commits, calls-off, gives-back, did}
+use Rattle.demands.proofs.Did.{Did, refuses, stays, keeps, acts, Kept, admits, retires, begins, starts, copies, fills, commits}
+use Rattle.demands.proofs.Did.{calls-off, gives-back, did}
 use Rattle.demands.proofs.Copying.{count-at}
 use Rattle.demands.proofs.Always.{always}
 

@@ -22,7 +22,8 @@ use Rattle.demands.specs.Log.{line, Log, after, log, said, answered, ans
 use Rattle.demands.proofs.Stages.{Early}
 use Rattle.demands.proofs.Lists.{getD-fresh, set-cases, and-false}
 use Rattle.demands.proofs.RowLaws.{oldHeader, cleared-get}
-use Rattle.demands.proofs.Did.{Turn, handles, readies, waits-on, swaps, ends, SameRows, same, cleared, Did, refuses, stays, keeps, acts, Kept, admits, retires, begins, starts, copies, fills, commits, calls-off, gives-back, did}
+use Rattle.demands.proofs.Did.{Turn, handles, readies, waits-on, swaps, ends, SameRows, same, cleared, Did, refuses, stays, keeps}
+use Rattle.demands.proofs.Did.{acts, Kept, admits, retires, begins, starts, copies, fills, commits, calls-off, gives-back, did}
 use Rattle.demands.proofs.Always.{always}
 use Rattle.demands.proofs.MoveCounts.{answered-other, begun-is-answered, aborted-is-answered}
 

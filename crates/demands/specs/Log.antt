@@ -5,14 +5,16 @@ use lib.Dec.{eqb, leb}
 use Rattle.model.specs.declared.Access.{Access}
 use Rattle.model.specs.declared.Access.the-variants.{Read, Write}
 use Rattle.model.specs.declared.Answer.{Answer}
-use Rattle.model.specs.declared.Answer.the-variants.{Refused, Admitted, Begun, BarrierOpen, CopyingStarts, Copied, Committed, CalledOff, GivenBack, Done, ReadyAt, WaitsOn, SwapWon, SwapLost, Got, Written}
+use Rattle.model.specs.declared.Answer.the-variants.{Refused, Admitted, Begun, BarrierOpen, CopyingStarts, Copied, Committed, CalledOff}
+use Rattle.model.specs.declared.Answer.the-variants.{GivenBack, Done, ReadyAt, WaitsOn, SwapWon, SwapLost, Got, Written}
 use Rattle.model.specs.Choice.{pick, _and_, _or_, one, total}
 use Rattle.model.specs.Records.{none}
 use Rattle.model.specs.Rows.{holdOf, wordOf}
 use Rattle.model.specs.State.{State}
 use Rattle.model.specs.Answers.{number}
 use Rattle.model.specs.Fresh.{fresh}
-use Rattle.model.specs.Steps.{Step, Name, ADMIT, RETIRE, BEGIN, ADVANCE, ATTACH, DETACH, OPEN, DROP, READ, WRITE, GO, REST, UNKNOWN, NOBODY, nameOf, act}
+use Rattle.model.specs.Steps.{Step, Name, ADMIT, RETIRE, BEGIN, ADVANCE, ATTACH, DETACH, OPEN, DROP, READ, WRITE, GO, REST, UNKNOWN}
+use Rattle.model.specs.Steps.{NOBODY, nameOf, act}
 
 -- a line: a step and its answer. The last line stands first.
 pub record Line : Type 0 where
