@@ -6,9 +6,9 @@ use Prim.Native.Nat.{ℕ, _≤_, _<_}
 use native.Mathlib.Omega.{arith}
 use lib.Dec.{ltb}
 use borrow.Author.Tests.{ltb-true}
-use Rattle.model.specs.Choice.{_and_, all}
+use Rattle.model.specs.Choice.{all}
 use Rattle.model.proofs.Choice.{and-parts}
-use Rattle.model.specs.Refusals.{Refusal, _if_, refuse}
+use Rattle.model.specs.Refusals.{Refusal}
 use Rattle.model.specs.declared.Row.{Row}
 use Rattle.model.specs.declared.Stepped.{Stepped}
 use Rattle.clients.specs.Turns.{lowest, refusedTurn, turn}
@@ -34,6 +34,6 @@ pub refused-by : (l : List Refusal) (r : Row) (o : Stepped) {n : ℕ} {x : Stepp
     → x ≡ turn l r o
 refused-by l r o e h p = p ∙ rw e (sym (turn-refused l r o (rw e at h)))
 
-pub done-by : (l : List Refusal) (r : Row) (o : Stepped) {n : ℕ} {x : Stepped} → all numbered l ≡ true → n ≡ lowest l → n ≤ 0 → x ≡ o
-    → x ≡ turn l r o
+pub done-by : (l : List Refusal) (r : Row) (o : Stepped) {n : ℕ} {x : Stepped} → all numbered l ≡ true
+    → n ≡ lowest l → n ≤ 0 → x ≡ o → x ≡ turn l r o
 done-by l r o k e h p = p ∙ sym (turn-done l r o k (omega arith))
