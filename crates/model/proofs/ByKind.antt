@@ -1,6 +1,6 @@
 -- Facts about a record's length, proved once over its kind. Assumes nothing.
 use mathlib.Core.Path.{_≡_, refl}
-use Prim.Native.Nat.{ℕ, zero, suc, _-_, _*_, _^_, _<_}
+use Prim.Native.Nat.{ℕ, zero, suc, _+_, _-_, _*_, _^_, _≤_, _<_}
 use native.Mathlib.Omega.{arith}
 use Rattle.model.specs.Kinds.{kindTable, ofKind, cells, words, payload}
 
@@ -16,3 +16,18 @@ by-kind (suc zero) = record { words-are-cells = refl; payload-is-words = refl; c
 by-kind (suc (suc zero)) = record { words-are-cells = refl; payload-is-words = refl; cells-double = λ _. refl }
 by-kind (suc (suc (suc zero))) = record { words-are-cells = refl; payload-is-words = refl; cells-double = λ _. refl }
 by-kind (suc (suc (suc (suc k)))) = record { words-are-cells = refl; payload-is-words = refl; cells-double = λ h. absurd (omega arith) }
+
+-- the lengths of a record that exists
+pub record Real (k : ℕ) : Type 0 where
+  pub some : 0 < cells k
+  pub cells-le : cells k ≤ 8
+  pub words-eight : words k ≡ 8 * cells k
+  pub payload-less : payload k + 2 ≡ words k
+
+pub real : (k : ℕ) → k < 4 → Real k
+unfolding ofKind kindTable
+real zero h = record { some = omega arith; cells-le = omega arith; words-eight = refl; payload-less = refl }
+real (suc zero) h = record { some = omega arith; cells-le = omega arith; words-eight = refl; payload-less = refl }
+real (suc (suc zero)) h = record { some = omega arith; cells-le = omega arith; words-eight = refl; payload-less = refl }
+real (suc (suc (suc zero))) h = record { some = omega arith; cells-le = omega arith; words-eight = refl; payload-less = refl }
+real (suc (suc (suc (suc k)))) h = absurd (omega arith)

@@ -12,8 +12,8 @@ use lib.Dec.{lit<, eqb, leb}
 use borrow.Author.Tests.{eq-eqb, eqb-true, eqb-false, le-leb, leb-true, leb-false}
 use lib.ListN.{length, getD, set, replicate, length-set}
 use lib.Seq.{getD-set-same, getD-set-other, set-out, ext-getD}
-use Rattle.model.specs.Choice.{_and_}
-use Rattle.model.proofs.Choice.{order, same-or-not, clash, and-parts, and-true}
+use Rattle.model.specs.Choice.{pick, _and_}
+use Rattle.model.proofs.Choice.{order, same-or-not, clash, by-test, and-parts, and-true}
 use Rattle.model.specs.Records.{none}
 use Rattle.model.proofs.Bits.{bit-lt, with-same, with-other, with-lt, bits-ext}
 use Rattle.model.specs.CellMap.{bit, withBit, used, put, putRun, freeCells, runAt, lowestFrom, lowestRun}
@@ -25,7 +25,7 @@ pub record IsMap (m : List ℕ) : Type 0 where
 
 pub used-lt : (m : List ℕ) (c : ℕ) → used m c < 2
 unfolding used
-used-lt m c = bit-lt (getD m (c / 64) 0) (c % 64)
+used-lt m c = bit-lt _ _
 
 -- bit k of word i is cell 64 i + k
 pub used-at : (m : List ℕ) (i k : ℕ) → k < 64 → used m (64 * i + k) ≡ bit (getD m i 0) k
@@ -177,15 +177,22 @@ later : (m : List ℕ) (n c k : ℕ) {r : ℕ} → ¬ FreeRun m n c → Lowest m
 later m n c k f (past-all g) = past-all (λ d p q. past m n c f d p (λ u. g d u (omega arith)))
 later m n c k f (first-at run p q g) = first-at run (omega arith) (omega arith) (λ d u v. past m n c f d u (λ w. g d w v))
 
+lowest-step : (m : List ℕ) (n c k : ℕ) → lowestFrom m n c (suc k) ≡ pick (runAt m n c) c (lowestFrom m n (suc c) k)
+unfolding lowestFrom
+lowest-step m n c k = by (runAt m n c)
+  where
+    by : (t : Bool) → (elim t as (λ _. ℕ) [ true ↦ c | false ↦ lowestFrom m n (suc c) k ]) ≡ pick t c (lowestFrom m n (suc c) k)
+    by true = refl
+    by false = refl
+
 lowest-from : (m : List ℕ) (n c k : ℕ) → Lowest m n c k (lowestFrom m n c k)
 unfolding lowestFrom
 lowest-from m n c zero = past-all (λ d p q. absurd (omega arith))
-lowest-from m n c (suc k) = by (runAt m n c) refl (lowest-from m n (suc c) k)
-  where
-    by : (t : Bool) → runAt m n c ≡ t → Lowest m n (suc c) k (lowestFrom m n (suc c) k)
-        → Lowest m n c (suc k) (elim t as (λ _. ℕ) [ true ↦ c | false ↦ lowestFrom m n (suc c) k ])
-    by true e ih = first-at (run-found m n c e) (omega arith) (omega arith) (λ d p q. absurd (omega arith))
-    by false e ih = later m n c k (λ r. clash (runAt m n c) (run-seen m n c r) e) ih
+lowest-from m n c (suc k) =
+    rw (lowest-step m n c k)
+    (by-test (Lowest m n c (suc k)) (runAt m n c)
+    (λ e. first-at (run-found m n c e) (omega arith) (omega arith) (λ d p q. absurd (omega arith)))
+    (λ e. later m n c k (λ r. clash (runAt m n c) (run-seen m n c r) e) (lowest-from m n (suc c) k)))
 
 -- r is the lowest free run of n cells, or says that there is none
 pub data IsLowest (m : List ℕ) (n : ℕ) : ℕ → Type 0 where

@@ -2,4 +2,14 @@ pub mod Choice
 pub mod ByKind
 pub mod Bits
 pub mod CellMap
+pub mod Refusals
+pub mod Answered
 pub mod Records
+pub mod Counts
+pub mod Effects
+pub mod Says
+pub mod Readings
+pub mod Covers
+pub mod Wording
+pub mod Fresh
+pub mod Sizes

@@ -1,7 +1,7 @@
 -- 01, "Numbers of refusal": "The lowest number that applies is given, and none is given otherwise."
-use mathlib.Core.Bool.{Bool, true, false, not, _||_}
+use mathlib.Core.Bool.{Bool, not}
 use mathlib.Core.List.{List, [], _∷_}
-use Prim.Native.Nat.{ℕ, _-_, _^_}
+use Prim.Native.Nat.{ℕ}
 use lib.Dec.{eqb, ltb, leb}
 use Rattle.model.specs.declared.Row.{Row}
 use Rattle.model.specs.declared.Control.{Control}
@@ -50,28 +50,17 @@ holdsCell c r = any (eqb c) (r .holds)
 -- what each step of the keeper may be refused by
 abbrev pub admitRefusals : Control → ℕ → ℕ → List Refusal
 admitRefusals c meter kind =
-    5 if badMeter meter
-    ∷ 5 if badKind kind
-    ∷ 7 if not (isNone (entry (c .dir) meter))
-    ∷ 12 if isNone (lowestRun (c .map) (cells kind))
-    ∷ []
+    5 if badMeter meter ∷ 5 if badKind kind ∷ 7 if not (isNone (entry (c .dir) meter))
+    ∷ 12 if isNone (lowestRun (c .map) (cells kind)) ∷ []
 
 abbrev pub retireRefusals : Control → List Row → ℕ → List Refusal
 retireRefusals c table meter =
-    5 if badMeter meter
-    ∷ 8 if moving c
-    ∷ 10 if isNone (entry (c .dir) meter)
-    ∷ 11 if any (holdsCell (entry (c .dir) meter)) table
-    ∷ []
+    5 if badMeter meter ∷ 8 if moving c ∷ 10 if isNone (entry (c .dir) meter) ∷ 11 if any (holdsCell (entry (c .dir) meter)) table ∷ []
 
 abbrev pub beginRefusals : Control → List ℕ → ℕ → List Refusal
 beginRefusals c arena meter =
-    5 if badMeter meter
-    ∷ 8 if moving c
-    ∷ 10 if isNone (entry (c .dir) meter)
-    ∷ 13 if leb (entry (c .dir) meter) (lowestRun (c .map) (cellsAt arena (entry (c .dir) meter)))
-    ∷ 15 if eqb (c .begun) 4294967295
-    ∷ []
+    5 if badMeter meter ∷ 8 if moving c ∷ 10 if isNone (entry (c .dir) meter)
+    ∷ 13 if leb (entry (c .dir) meter) (lowestRun (c .map) (cellsAt arena (entry (c .dir) meter))) ∷ 15 if eqb (c .begun) 4294967295 ∷ []
 
 abbrev pub advanceRefusals : Control → List Refusal
 advanceRefusals c = 9 if not (moving c) ∷ []
@@ -86,30 +75,17 @@ restRefusals r = 6 if not (r .attached) ∷ 8 if busy (r .phase) ∷ []
 
 abbrev pub openRefusals : Row → ℕ → ℕ → ℕ → List Refusal
 openRefusals r entry meter h =
-    5 if badMeter meter
-    ∷ 5 if badHold h
-    ∷ 6 if not (r .attached)
-    ∷ 8 if busy (r .phase)
-    ∷ 10 if isNone entry
-    ∷ []
+    5 if badMeter meter ∷ 5 if badHold h ∷ 6 if not (r .attached) ∷ 8 if busy (r .phase) ∷ 10 if isNone entry ∷ []
 
 abbrev pub dropRefusals : Row → ℕ → List Refusal
 dropRefusals r h =
-    5 if badHold h
-    ∷ 6 if not (r .attached)
-    ∷ 8 if busy (r .phase)
-    ∷ 10 if isNone (hold r h)
-    ∷ []
+    5 if badHold h ∷ 6 if not (r .attached) ∷ 8 if busy (r .phase) ∷ 10 if isNone (hold r h) ∷ []
 
 -- READ and WRITE
 abbrev pub accessRefusals : List ℕ → Row → ℕ → ℕ → List Refusal
 accessRefusals arena r h w =
-    5 if badHold h
-    ∷ 6 if not (r .attached)
-    ∷ 8 if busy (r .phase)
-    ∷ 10 if isNone (hold r h)
-    ∷ 14 if leb (payloadAt arena (hold r h)) w
-    ∷ []
+    5 if badHold h ∷ 6 if not (r .attached) ∷ 8 if busy (r .phase) ∷ 10 if isNone (hold r h)
+    ∷ 14 if leb (payloadAt arena (hold r h)) w ∷ []
 
 abbrev pub goRefusals : Row → List Refusal
 goRefusals r = 6 if not (r .attached) ∷ 9 if not (busy (r .phase)) ∷ []

@@ -1,0 +1,88 @@
+-- Laws of refusing: the line that is given is the lowest that applies, and what is shown of each line and of the accepted outcome
+-- holds of whatever is given. Assumes nothing.
+use mathlib.Core.Path.{_≡_, refl, sym, subst}
+use mathlib.Core.Bool.{Bool, true, false}
+use mathlib.Core.List.{List, [], _∷_}
+use Prim.Native.Nat.{ℕ, _≤_}
+use native.Mathlib.Omega.{arith}
+use lib.Dec.{T, eqb, leb}
+use borrow.Author.Tests.{eqb-true, leb-true}
+use Rattle.model.specs.Choice.{pick, _and_, _or_}
+use Rattle.model.specs.Refusals.{Refusal, refuse}
+use Rattle.model.proofs.Choice.{by-test, clash}
+
+-- no line applies
+abbrev pub Passed : List Refusal → Type 0
+Passed [] = Unit {0}
+Passed (g ∷ l) = (g .1 ≡ false) × Passed l
+
+-- what is shown of the number of each line
+abbrev pub Each : (ℕ → Type 0) → List Refusal → Type 0
+Each Q [] = Unit {0}
+Each Q (g ∷ l) = Q (g .0) × Each Q l
+
+pub by-refusals : {A : Type 0} (P : A → Type 0) (l : List Refusal) (f : ℕ → A) (o : A) → Each (λ n. P (f n)) l → (Passed l → P o) → P (refuse l f o)
+by-refusals P [] f o r h = h tt
+by-refusals P (g ∷ l) f o r h = by-test P (g .1) (λ e. r .0) (λ e. by-refusals P l f o (r .1) (λ k. h (e, k)))
+
+-- what holds whatever number is given
+each-line : (Q : ℕ → Type 0) (l : List Refusal) → ((n : ℕ) → Q n) → Each Q l
+each-line Q [] h = tt
+each-line Q (g ∷ l) h = (h (g .0), each-line Q l h)
+
+pub unless-refused : {A : Type 0} (P : A → Type 0) (l : List Refusal) (f : ℕ → A) (o : A) → ((n : ℕ) → P (f n)) → (Passed l → P o) → P (refuse l f o)
+unless-refused P l f o r h = by-refusals P l f o (each-line (λ n. P (f n)) l r) h
+
+-- what holds of every number that a test lets pass holds of each line, where the test, computed, lets all its numbers pass
+abbrev pub numbers : (ℕ → Bool) → List Refusal → Bool
+numbers f [] = true
+numbers f (g ∷ l) = f (g .0) and numbers f l
+
+pub each : (Q : ℕ → Type 0) (f : ℕ → Bool) (l : List Refusal) → ((n : ℕ) → f n ≡ true → Q n) → T (numbers f l) → Each Q l
+each Q f [] h t = tt
+each Q f (g ∷ l) h t = both (f (g .0)) refl t (each Q f l h)
+  where
+    both : (b : Bool) → f (g .0) ≡ b → T (b and numbers f l) → (T (numbers f l) → Each Q l) → Q (g .0) × Each Q l
+    both true e u r = (h (g .0) e, r u)
+    both false e u r = absurd u
+
+-- "The lowest number that applies is given": the lines rise, so the first that applies is the lowest
+abbrev pub atLeast : ℕ → List Refusal → Bool
+atLeast n [] = true
+atLeast n (g ∷ l) = leb n (g .0) and atLeast n l
+
+abbrev pub rising : List Refusal → Bool
+rising [] = true
+rising (g ∷ l) = atLeast (g .0) l and rising l
+
+-- line n applies
+abbrev pub applies : ℕ → List Refusal → Bool
+applies n [] = false
+applies n (g ∷ l) = (eqb (g .0) n and g .1) or applies n l
+
+-- the number that is given, or 0
+abbrev pub given : List Refusal → ℕ
+given l = refuse l (λ n. n) 0
+
+floor : (l : List Refusal) (n m : ℕ) → T (atLeast n l) → applies m l ≡ true → n ≤ m
+floor [] n m t e = clash false e refl
+floor (g ∷ l) n m t e = by (leb n (g .0)) refl t (eqb (g .0) m) refl (g .1) e (λ u. floor l n m u)
+  where
+    by : (p : Bool) → leb n (g .0) ≡ p → T (p and atLeast n l) → (q : Bool) → eqb (g .0) m ≡ q → (x : Bool) → ((q and x) or applies m l) ≡ true
+        → (T (atLeast n l) → applies m l ≡ true → n ≤ m) → n ≤ m
+    by true p u true q true f r = omega (arith, leb-true n (g .0) p, eqb-true (g .0) m q)
+    by true p u true q false f r = r u f
+    by true p u false q x f r = r u f
+    by false p u q d x f r = absurd u
+
+pub lowest-is-given : (l : List Refusal) → T (rising l) → (n : ℕ) → applies n l ≡ true → given l ≤ n
+lowest-is-given [] t n e = clash false e refl
+lowest-is-given (g ∷ l) t n e = by (atLeast (g .0) l) refl t (g .1) (eqb (g .0) n) refl e (λ u. lowest-is-given l u n)
+  where
+    by : (p : Bool) → atLeast (g .0) l ≡ p → T (p and rising l) → (x q : Bool) → eqb (g .0) n ≡ q → ((q and x) or applies n l) ≡ true
+        → (T (rising l) → applies n l ≡ true → given l ≤ n) → pick x (g .0) (given l) ≤ n
+    by true p u true true q f r = omega (arith, eqb-true (g .0) n q)
+    by true p u true false q f r = floor l (g .0) n (subst T (sym p) tt) f
+    by true p u false true q f r = r u f
+    by true p u false false q f r = r u f
+    by false p u x q d f r = absurd u
