@@ -4,3 +4,4 @@ pub mod Bits
 pub mod CellMap
 pub mod Refusals
 pub mod Answered
+pub mod MapCount
