@@ -5,3 +5,4 @@ pub mod CellMap
 pub mod Refusals
 pub mod Answered
 pub mod MapCount
+pub mod Records
