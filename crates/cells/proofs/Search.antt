@@ -1,6 +1,6 @@
 -- The search for the lowest run: what a hop by trailing zeros passes and where it ends, and that no run starts where the search
 -- went by. Assumes nothing.
-use mathlib.Core.Path.{_≡_, refl, sym, ap, ap₂, _∙_}
+use mathlib.Core.Path.{_≡_, sym, ap, ap₂, _∙_}
 use mathlib.Core.Bool.{Bool, true, false, not}
 use mathlib.Core.List.{List}
 use mathlib.Core.Logic.{⊎-elim}
@@ -9,7 +9,7 @@ use native.Mathlib.Omega.{arith}
 use lib.ListN.{getD}
 use lib.Count.{trailingZeros}
 use Rattle.model.specs.Choice.{one}
-use Rattle.model.specs.CellMap.{bit, used, freeCells, runAt, lowestFrom, lowestRun}
+use Rattle.model.specs.CellMap.{bit, used, lowestRun}
 use Rattle.model.proofs.Choice.{order}
 use Rattle.model.proofs.Bits.{bit-shr, bit-high, zeros-below, zeros-at}
 use Rattle.model.proofs.CellMap.{IsMap, FreeRun, IsLowest, lowest-is-lowest, lowest-unique}
@@ -86,11 +86,6 @@ module _ (m : List ℕ) (n c s e : ℕ) (pos : 0 < n) (below : NoneBelow m n c) 
 -- nor anywhere, once c has come to the end of the map
 pub none-at-all : (m : List ℕ) (n c : ℕ) → 0 < n → 1024 ≤ c → NoneBelow m n c → (d : ℕ) → ¬ FreeRun m n d
 none-at-all m n c pos h below d r = ⊎-elim (λ p. below d p r) (λ (p : c ≤ d). omega (arith, r .within)) (order d c)
-
--- a run of no cells starts at cell 0
-pub lowest-of-none : (m : List ℕ) → lowestRun m 0 ≡ 0
-unfolding lowestRun lowestFrom runAt freeCells
-lowest-of-none m = refl
 
 -- whatever is the lowest run is the model's
 pub lowest-only : (m : List ℕ) (n : ℕ) → 0 < n → {r : ℕ} → IsLowest m n r → r ≡ lowestRun m n

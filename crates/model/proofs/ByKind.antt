@@ -1,6 +1,6 @@
 -- Facts about a record's length, proved once over its kind. Assumes nothing.
 use mathlib.Core.Path.{_≡_, refl}
-use Prim.Native.Nat.{ℕ, zero, suc, _-_, _*_, _^_, _<_}
+use Prim.Native.Nat.{ℕ, zero, suc, _-_, _*_, _^_, _≤_, _<_}
 use native.Mathlib.Omega.{arith}
 use Rattle.model.specs.Kinds.{kindTable, ofKind, cells, words, payload}
 
@@ -16,3 +16,16 @@ by-kind (suc zero) = record { words-are-cells = refl; payload-is-words = refl; c
 by-kind (suc (suc zero)) = record { words-are-cells = refl; payload-is-words = refl; cells-double = λ _. refl }
 by-kind (suc (suc (suc zero))) = record { words-are-cells = refl; payload-is-words = refl; cells-double = λ _. refl }
 by-kind (suc (suc (suc (suc k)))) = record { words-are-cells = refl; payload-is-words = refl; cells-double = λ h. absurd (omega arith) }
+
+-- a record has at most eight cells
+pub cells-at-most : (k : ℕ) → cells k ≤ 8
+unfolding ofKind kindTable
+cells-at-most zero = omega arith
+cells-at-most (suc zero) = omega arith
+cells-at-most (suc (suc zero)) = omega arith
+cells-at-most (suc (suc (suc zero))) = omega arith
+cells-at-most (suc (suc (suc (suc k)))) = omega arith
+
+-- so a run of them is shorter than a word of the map
+pub cells-short : (k : ℕ) → cells k < 64
+cells-short k = omega (arith, cells-at-most k)

@@ -226,3 +226,13 @@ lowest-range m n h = by (lowest-is-lowest m n h)
     by : {r : ℕ} → IsLowest m n r → r ≤ none
     by (nowhere f) = omega arith
     by (found run f) = omega (arith, run .within)
+
+-- a run of no cells starts at cell 0
+pub lowest-of-none : (m : List ℕ) → lowestRun m 0 ≡ 0
+unfolding lowestRun lowestFrom runAt freeCells
+lowest-of-none m = refl
+
+-- what is found is a cell or 65535, in sixteen bits
+pub lowest-fits : (m : List ℕ) (n : ℕ) → lowestRun m n ≤ none
+lowest-fits m zero = omega (arith, lowest-of-none m)
+lowest-fits m (suc n) = lowest-range m (suc n) (omega arith)
