@@ -44,12 +44,9 @@ module _ {X : Type 0} {dir map : List ℕ} {v : Move} {arena : List ℕ} {val : 
   pub entry-range : (m : ℕ) → entry dir m ≢ none → entry dir m < 1024
   entry-range m n = let E = C .entries m n in let z = real (kind m) (E .kinded) in omega (arith, E .range)
 
-  -- the owner of an entry's first cell: two entries at one cell are one
+  -- the owner of an entry's first cell
   pub entry-own : (m : ℕ) → entry dir m ≢ none → own (entry dir m) ≡ m
   entry-own m n = let E = C .entries m n in let z = real (kind m) (E .kinded) in E .owns (entry dir m) (omega arith) (omega arith)
-
-  pub entry-one : (m n : ℕ) → entry dir m ≢ none → entry dir m ≡ entry dir n → m ≡ n
-  entry-one m n z e = sym (entry-own m z) ∙ ap own e ∙ entry-own n (λ y. z (e ∙ y))
 
   -- the moved meter's record, at c, and the other block, at d
   module _ {c d : ℕ} (b : Sides v c d) where

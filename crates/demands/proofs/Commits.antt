@@ -32,9 +32,6 @@ use Rattle.demands.proofs.Copying.{restaged, count-at}
 module _ {X : Type 0} {dir map : List ℕ} {v : Move} {arena : List ℕ} {val : ℕ → ℕ → ℕ} {kind own : ℕ → ℕ}
     (C : Core X dir map v arena val kind own)
     (l : Early v) (all : v .copied ≡ 8 * cells (kind (v .meter))) (flag : header arena (v .from) ≡ flagged (v .from)) where
-  abbrev M : ℕ
-  M = v .meter
-
   abbrev v′ : Move
   v′ = restaged v 4 (v .copied)
 

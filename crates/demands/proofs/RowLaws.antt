@@ -16,10 +16,8 @@ use Rattle.model.specs.Records.{none, header}
 use Rattle.model.specs.Rows.{busy, hold, freshRow, withPassed, cleared, clearMarks, hasPassed, allPassed}
 use Rattle.model.specs.State.{State, withRow}
 use Rattle.model.specs.Steps.{Step, ownRow}
-use Rattle.model.specs.Rules.{isEarly}
 use Rattle.model.proofs.Choice.{clash}
 use Rattle.demands.specs.Log.{noAccess, Client, Account, newClient, clientOf, withClient}
-use Rattle.demands.proofs.Stages.{Early}
 use Rattle.demands.proofs.Lists.{set-cases, set-both, all-get}
 use Rattle.demands.proofs.Blocks.{side-lt}
 use Rattle.demands.proofs.Inv.{Flag, empty, ReadyOK, WaitingOK, PhaseOK, rests, ready, waits, Detached, RowOK, late, Inv}
@@ -96,9 +94,6 @@ pub passed-get : (table : List Row) → allPassed table ≡ true → (i : ℕ) �
 passed-get table e = all-get hasPassed table freshRow e refl
 
 module _ {X : Type 0} {s : State} {g : Account} (I : Inv X s g) where
-  pub begun-early : Early (s .control .mv) → 0 < s .control .begun
-  begun-early l = omega (arith, I .r7, one-early (isEarly (s .control .mv)) l)
-
   pub row-in : (t : Step) → RowIn X s g (ownRow s t) (clientOf g t)
   row-in t = I .rows (pred (t .who))
 

@@ -61,9 +61,6 @@ at-stage p q r t n =
 pub not-both : (v : Move) → Early v → Late v → ⊥
 not-both v = at-stage early late never tt (v .stage)
 
-pub first-early : (v : Move) → First v → Early v
-first-early v l = at-stage first first early tt (v .stage) l l
-
 -- with no move in hand
 pub idle-of : (v : Move) → inHand (stageOf (v .stage)) ≡ false → Idle v
 idle-of v e = rw e tt
