@@ -140,18 +140,21 @@ client-who (suc client) code e =
     by-test (λ (n : Name). ofClient n ≡ true → (0 < suc client) × (suc client ≤ 8)) (ltb client 8)
     (λ y _. let b = ltb-true client 8 y in (omega arith, omega arith)) (λ _ z. clash false z refl) e
 
--- what is said of the answer 34: it is the last value written to the word that the log says is being read
-abbrev pub ReadRight : Type 0 → Account → Step → Answer → Type 0
-ReadRight X g t x =
-    X → number x ≡ 34 → (m : ℕ) × (y : Access) × (clientOf g t .pending ≡ accessTo m y) × (isWrite y ≡ false)
-    × (value x ≡ g .lastWritten m (wordOf y))
+-- what is said of the answers 34 and 35: they end the access that the log says is open, a read or a write; and a read's value is the last
+-- one written
+pub record Finished (X : Type 0) (g : Account) (t : Step) (x : Answer) : Type 0 where
+  pub meter : ℕ
+  pub access : Access
+  pub pending : clientOf g t .pending ≡ accessTo meter access
+  pub writes : isWrite access ≡ eqb (number x) 35
+  pub last : X → number x ≡ 34 → value x ≡ g .lastWritten meter (wordOf access)
 
 module _ {X : Type 0} (s : State) (g : Account) (t : Step) (I : Inv X s g) where
   abbrev v : Move
   v = s .control .mv
 
   abbrev D : Outcome → Type 0
-  D = Did (ReadRight X g t) s t
+  D = Did (Finished X g t) s t
 
   unless : (l : List Refusal) (o : Outcome) → T (numbers (λ n. ltb n 20) l) → (Passed l → D o) → D (refuse l (refused s) o)
   unless l o low f = by-refusals D l (refused s) o (each (λ n. D (refused s n)) (λ n. ltb n 20) l (λ n e. refuses (ltb-true n 20 e)) low) f
@@ -241,12 +244,27 @@ module _ {X : Type 0} (s : State) (g : Account) (t : Step) (I : Inv X s g) where
     finishing c (Read h i) e W =
         acts {x = Got (word (s .arena) c (2 + i))} (w .0) (w .1) (omega arith) (λ _ _. refl)
         (ends (omega arith) (omega arith) refl e refl
-        (λ x _. (clientOf g t .opened h, Read h i, W .asked .pending, refl, read-right s g t I seat x W)))
+        (record {
+          meter = clientOf g t .opened h;
+          access = Read h i;
+          pending = W .asked .pending;
+          writes = refl;
+          last =
+              λ x _. read-right s g t I seat x W;
+        }))
     finishing c (Write h i u) e W =
         let P = spot-of s g t I seat c (Write h i u) W in
         acts {x = Written} (w .0) (w .1) (omega arith)
         (λ l _. home-head (I .core) (P .0) (clientOf g t .opened h) c i u (P .1) (W .asked .fits) l)
-        (ends (omega arith) (omega arith) refl e refl (λ _ z. absurd (omega arith)))
+        (ends (omega arith) (omega arith) refl e refl
+        (record {
+          meter = clientOf g t .opened h;
+          access = Write h i u;
+          pending = W .asked .pending;
+          writes = refl;
+          last = λ _ z. absurd
+              (omega arith);
+        }))
 
     going : {p : Phase} → ownRow s t .phase ≡ p → PhaseIn X s g t p → not (busy p) ≡ false → S (go (s .arena) (ownRow s t) p)
     going e (rests _) b = clash true refl b
@@ -278,6 +296,6 @@ module _ {X : Type 0} (s : State) (g : Account) (t : Step) (I : Inv X s g) where
   by-name UNKNOWN k w = refuses {n = 4} (omega arith)
   by-name NOBODY k w = refuses {n = 3} (omega arith)
 
-  pub did : Did (ReadRight X g t) s t (act s t)
+  pub did : Did (Finished X g t) s t (act s t)
   unfolding act
   did = by-name (nameOf t) (keeper-who (t .who) (t .code)) (client-who (t .who) (t .code))
