@@ -1,0 +1,15 @@
+use Rattle.table.proofs.access_of.Statement.{statement}
+use Rattle.table.proofs.access_of.Tie as tie
+use Rattle.table.proofs.access_of.Reads as reads
+use Rattle.table.proofs.access_of.Lts as lts
+
+-- src/lib.rt:42:1
+returns : tie.Need-returns
+returns c = ?
+
+-- src/lib.rt:42:1
+returns-2 : tie.Need-returns-2
+returns-2 c = ?
+
+pub access-of-spec : {M : Type 1} → statement M
+access-of-spec = tie.close (tie.spec returns returns-2)

@@ -1,0 +1,25 @@
+use borrow.Author.Needs.{needs}
+use Rattle.table.proofs.phase_of.Statement.{statement}
+use Rattle.table.proofs.phase_of.Tie as tie
+use Rattle.table.proofs.phase_of.Reads as reads
+use Rattle.table.proofs.phase_of.Lts as lts
+use Rattle.table.proofs.access_of.Reads as access-of-reads
+
+-- src/lib.rt:55:9
+access-of-requires : tie.Need-access-of-requires
+access-of-requires c κs = search needs
+
+-- src/lib.rt:52:1
+returns : tie.Need-returns
+returns c = ?
+
+-- src/lib.rt:52:1
+returns-2 : tie.Need-returns-2
+returns-2 c = ?
+
+-- src/lib.rt:52:1
+returns-3 : tie.Need-returns-3
+returns-3 c = ?
+
+pub phase-of-spec : {M : Type 1} → statement M
+phase-of-spec = tie.close (tie.spec access-of-requires returns returns-2 returns-3)
