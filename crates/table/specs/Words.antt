@@ -83,7 +83,7 @@ isPhase tag c h w v =
 -- the twelve words from k on mean a row
 unfoldable pub isRow : List ℕ → ℕ → Bool
 isRow t k =
-    whole t k and ltb (getD t k 0) 2 and ltb (getD t (k + 1) 0) 2
+    whole t k and leb (getD t k 0) 1 and leb (getD t (k + 1) 0) 1
     and isPhase (getD t (k + 7) 0) (getD t (k + 8) 0) (getD t (k + 9) 0) (getD t (k + 10) 0) (getD t (k + 11) 0)
 
 -- row i: what its words mean

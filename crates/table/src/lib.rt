@@ -3,7 +3,7 @@
 // Words of a row: 0 attached, 1 passed, 2 to 5 the holds, 6 swaps, 7 phase, 8 cell, 9 hold, 10 word, 11 value.
 ghost use mathlib.Core.Path.{_≡_};
 ghost use Prim.Native.Nat.{_*_};
-ghost use lib.ListN.{getD};
+ghost use lib.Dec.{eqb};
 ghost use Rattle.model.specs.Choice.{_and_, _or_, any, total};
 ghost use Rattle.model.specs.Rows.{freshRow, allPassed};
 ghost use Rattle.model.specs.Refusals.{holdsCell};
@@ -250,10 +250,9 @@ pub fn all_passed(t: &[u32]) -> bool
     true
 }
 
-fn row_holds(row: Row, cell: u32) -> bool
-    ensures { λ r. ⌜ r ≡ holdsCell cell row ⌝ }
+fn is_among(holds: [u32; 4], cell: u32) -> bool
+    ensures { λ r. ⌜ r ≡ any (eqb cell) holds ⌝ }
 {
-    let holds = row.holds;
     either(cell == holds[0], either(cell == holds[1], either(cell == holds[2], cell == holds[3])))
 }
 
@@ -263,7 +262,9 @@ pub fn holds_cell(t: &[u32], cell: u32) -> bool
 {
     let mut i = 0;
     while i < ROWS {
-        if row_holds(row_at(t, i), cell) {
+        let row = row_at(t, i);
+        let holds = row.holds;
+        if is_among(holds, cell) {
             return true;
         }
         i += 1;
@@ -271,11 +272,11 @@ pub fn holds_cell(t: &[u32], cell: u32) -> bool
     false
 }
 
-fn swaps_at(t: &[u32], i: u32) -> u64
+fn swaps_at(t: &[u32], i: u32) -> u32
     ensures { λ r. ⌜ r ≡ rowIn (now (t .entry)) (12 * i) .swaps ⌝ }
 {
     let row = row_at(t, i);
-    row.swaps as u64
+    row.swaps
 }
 
 // Replay's total "all swaps": a sum over eight rows, which needs more than 32 bits.
@@ -285,7 +286,7 @@ pub fn all_swaps(t: &[u32]) -> u64
     let mut sum: u64 = 0;
     let mut i = 0;
     while i < ROWS {
-        sum += swaps_at(t, i);
+        sum += swaps_at(t, i) as u64;
         i += 1;
     }
     sum

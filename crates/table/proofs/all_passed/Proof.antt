@@ -1,3 +1,12 @@
+use borrow.Author.Tests.{not-true, not-false}
+use borrow.Author.Needs.{needs}
+use Prim.Native.Nat.{_≤_, _-_}
+use mathlib.Core.Path.{_≡_, refl, sym, _∙_}
+use native.Mathlib.Omega.{arith}
+use denote.Ref.{now}
+use Rattle.model.specs.Rows.{allPassed}
+use Rattle.table.proofs.Loops.{rows-next}
+use Rattle.table.specs.Words.{rowRead, rowsFrom, rowsRead}
 use Rattle.table.proofs.all_passed.Statement.{statement}
 use Rattle.table.proofs.all_passed.Tie as tie
 use Rattle.table.proofs.all_passed.Reads as reads
@@ -5,38 +14,39 @@ use Rattle.table.proofs.all_passed.Lts as lts
 use Rattle.table.proofs.has_passed.Reads as has-passed-reads
 
 abbrev Inv-loop : tie.InvT-loop
-Inv-loop t i₀ i = ?
+Inv-loop t i₀ i = (allPassed (rowsFrom (rowRead t) i (8 - i)) ≡ allPassed (rowsRead t)) × (i ≤ 8)
 
 abbrev μ-loop : tie.MeasureT-loop
-μ-loop t i₀ i = ?
+μ-loop t i₀ i = 8 - i
 
 -- src/lib.rt:244:5
 loop-holds : tie.Need-loop-holds Inv-loop μ-loop
-loop-holds c = ?
+loop-holds c = (refl, search needs)
 
 -- src/lib.rt:245:13
 has-passed-requires : tie.Need-has-passed-requires Inv-loop μ-loop
-has-passed-requires c κs = ?
+has-passed-requires c κs = search needs
 
 -- src/lib.rt:246:13
 returns : tie.Need-returns Inv-loop μ-loop
-returns c = ?
+returns c = rw (rows-next _ 8 _ (c .before .before .loop-test .taken), sym (c .before .has-passed .ensures) ∙ not-true _ (c .if1 .taken)) at (c .before .before .before .loop .inv .0)
 
 -- src/lib.rt:248:9
 add-i : tie.Need-add-i Inv-loop μ-loop
-add-i c = ?
+add-i c = search needs
 
 -- src/lib.rt:244:5
 loop-less : tie.Need-loop-less Inv-loop μ-loop
-loop-less c = ?
+loop-less c = search needs
 
 -- src/lib.rt:244:5
 loop-again : tie.Need-loop-again Inv-loop μ-loop
-loop-again c = ?
+loop-again c = (rw (rows-next _ 8 _ (c .before .before .loop-test .taken), sym (c .before .has-passed .ensures) ∙ not-false _ (c .if1 .left)) at (c .before .before .before .loop .inv .0), search needs)
 
 -- src/lib.rt:240:1
 returns-2 : tie.Need-returns-2 Inv-loop μ-loop
-returns-2 c = ?
+unfolding rowsFrom
+returns-2 c = let e : c .before .loop .i ≡ 8 = omega arith in rw e at (c .before .loop .inv .0)
 
 pub all-passed-spec : {M : Type 1} → statement M
 all-passed-spec =

@@ -14,11 +14,11 @@ enum-known-x-2 c = search needs
 
 -- src/lib.rt:130:1
 returns : tie.Need-returns
-returns c = ?
+returns c = simp (c .before .x .given .1)
 
 -- src/lib.rt:130:1
 returns-2 : tie.Need-returns-2
-returns-2 c = ?
+returns-2 c = simp (c .before .x2 .given .1)
 
 pub busy-words-spec : {M : Type 1} → statement M
 busy-words-spec = tie.close (tie.spec enum-known-x enum-known-x-2 returns returns-2)

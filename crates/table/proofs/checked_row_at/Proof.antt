@@ -1,3 +1,5 @@
+use mathlib.Core.Path.{sym, _∙_}
+use Rattle.table.specs.Words.{rowAt}
 use borrow.Author.Needs.{needs}
 use Rattle.table.proofs.checked_row_at.Statement.{statement}
 use Rattle.table.proofs.checked_row_at.Tie as tie
@@ -21,11 +23,13 @@ no-row-requires c κs = search needs
 
 -- src/lib.rt:124:1
 returns : tie.Need-returns
-returns c = ?
+unfolding rowAt
+returns c = rw (sym (c .before .before .is-row .ensures) ∙ c .before .if1 .taken) (c .row-at .ensures)
 
 -- src/lib.rt:124:1
 returns-2 : tie.Need-returns-2
-returns-2 c = ?
+unfolding rowAt
+returns-2 c = rw (sym (c .before .before .is-row .ensures) ∙ c .before .if1 .left) (c .no-row .ensures)
 
 pub checked-row-at-spec : {M : Type 1} → statement M
 checked-row-at-spec =

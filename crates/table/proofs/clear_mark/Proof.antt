@@ -1,3 +1,4 @@
+use Rattle.table.specs.Words.{clearMark}
 use borrow.Author.Needs.{needs}
 use Rattle.table.proofs.clear_mark.Statement.{statement}
 use Rattle.table.proofs.clear_mark.Tie as tie
@@ -32,7 +33,8 @@ same-length c = search needs
 
 -- src/lib.rt:213:1
 returns : tie.Need-returns
-returns c = ?
+unfolding clearMark
+returns c = simp (c .before .before .store .ensures, c .before .before .before .before .load .ensures)
 
 pub clear-mark-spec : {M : Type 1} → statement M
 clear-mark-spec =

@@ -1,3 +1,5 @@
+use borrow.Author.Tests.{lt-ltb, le-ltb}
+use Rattle.table.specs.Words.{rowIn}
 use borrow.Author.Needs.{needs}
 use Rattle.table.proofs.has_passed.Statement.{statement}
 use Rattle.table.proofs.has_passed.Tie as tie
@@ -26,11 +28,13 @@ shared-slice-read-result c = search needs
 
 -- src/lib.rt:232:1
 returns : tie.Need-returns
-returns c = ?
+unfolding rowIn
+returns c = simp (lt-ltb _ _ (c .before .if1 .taken))
 
 -- src/lib.rt:232:1
 returns-2 : tie.Need-returns-2
-returns-2 c = ?
+unfolding rowIn
+returns-2 c = simp (le-ltb _ _ (c .if1 .left))
 
 pub has-passed-spec : {M : Type 1} → statement M
 has-passed-spec =

@@ -1,3 +1,5 @@
+use borrow.Author.Tests.{eq-eqb, ne-eqb}
+use Rattle.table.specs.Words.{isPhase}
 use borrow.Author.Needs.{needs}
 use Rattle.table.proofs.is_phase.Statement.{statement}
 use Rattle.table.proofs.is_phase.Tie as tie
@@ -20,7 +22,8 @@ both-requires-3 c κs = search needs
 
 -- src/lib.rt:101:9
 returns : tie.Need-returns
-returns c = ?
+unfolding isPhase
+returns c = simp (c .both3 .ensures, c .before .both2 .ensures, c .before .before .both .ensures, eq-eqb _ _ (c .before .before .before .if1 .taken))
 
 -- src/lib.rt:103:33
 either-requires : tie.Need-either-requires
@@ -36,7 +39,8 @@ both-requires-5 c κs = search needs
 
 -- src/lib.rt:97:1
 returns-2 : tie.Need-returns-2
-returns-2 c = ?
+unfolding isPhase
+returns-2 c = simp (c .both5 .ensures, c .before .both4 .ensures, c .before .before .either .ensures, ne-eqb _ _ (c .before .before .before .if1 .left))
 
 pub is-phase-spec : {M : Type 1} → statement M
 is-phase-spec =

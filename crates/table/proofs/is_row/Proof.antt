@@ -1,3 +1,5 @@
+use borrow.Author.Tests.{lt-ltb, le-ltb, lt-leb, le-leb}
+use Rattle.table.specs.Words.{isRow}
 use borrow.Author.Needs.{needs}
 use Rattle.table.proofs.is_row.Statement.{statement}
 use Rattle.table.proofs.is_row.Tie as tie
@@ -23,7 +25,8 @@ shared-slice-read-if2 c = search needs
 
 -- src/lib.rt:113:13
 returns : tie.Need-returns
-returns c = ?
+unfolding isRow
+returns c = simp (lt-ltb _ _ (c .before .before .if1 .taken), lt-leb _ _ (c .if2 .taken))
 
 -- src/lib.rt:115:18
 add-if3 : tie.Need-add-if3
@@ -39,7 +42,8 @@ shared-slice-read-if3 c = search needs
 
 -- src/lib.rt:116:13
 returns-2 : tie.Need-returns-2
-returns-2 c = ?
+unfolding isRow
+returns-2 c = simp (lt-ltb _ _ (c .before .before .before .before .if1 .taken), le-leb _ _ (c .before .before .if2 .left), lt-leb _ _ (c .if3 .taken))
 
 -- src/lib.rt:118:27
 add-is-phase : tie.Need-add-is-phase
@@ -107,11 +111,13 @@ is-phase-requires c κs = search needs
 
 -- src/lib.rt:118:9
 returns-3 : tie.Need-returns-3
-returns-3 c = ?
+unfolding isRow
+returns-3 c = simp (lt-ltb _ _ (c .before .before .before .before .before .before .before .before .before .before .if1 .taken), le-leb _ _ (c .before .before .before .before .before .before .before .before .if2 .left), le-leb _ _ (c .before .before .before .before .before .before .if3 .left)) (c .is-phase .ensures)
 
 -- src/lib.rt:107:1
 returns-4 : tie.Need-returns-4
-returns-4 c = ?
+unfolding isRow
+returns-4 c = simp (le-ltb _ _ (c .if1 .left))
 
 pub is-row-spec : {M : Type 1} → statement M
 is-row-spec =

@@ -1,3 +1,5 @@
+use borrow.Author.Tests.{lt-ltb, le-ltb}
+use Rattle.table.specs.Words.{phaseOf}
 use borrow.Author.Needs.{needs}
 use Rattle.table.proofs.phase_of.Statement.{statement}
 use Rattle.table.proofs.phase_of.Tie as tie
@@ -11,15 +13,18 @@ access-of-requires c κs = search needs
 
 -- src/lib.rt:52:1
 returns : tie.Need-returns
-returns c = ?
+unfolding phaseOf
+returns c = simp (lt-ltb _ _ (c .if1 .taken))
 
 -- src/lib.rt:52:1
 returns-2 : tie.Need-returns-2
-returns-2 c = ?
+unfolding phaseOf
+returns-2 c = simp (le-ltb _ _ (c .before .if1 .left), lt-ltb _ _ (c .if2 .taken), c .before .before .access-of .ensures)
 
 -- src/lib.rt:52:1
 returns-3 : tie.Need-returns-3
-returns-3 c = ?
+unfolding phaseOf
+returns-3 c = simp (le-ltb _ _ (c .before .if1 .left), le-ltb _ _ (c .if2 .left), c .before .before .access-of .ensures)
 
 pub phase-of-spec : {M : Type 1} → statement M
 phase-of-spec = tie.close (tie.spec access-of-requires returns returns-2 returns-3)

@@ -27,15 +27,15 @@ busy-words-requires-2 c κs = search needs
 
 -- src/lib.rt:151:1
 returns : tie.Need-returns
-returns c = ?
+returns c = simp (c .enum-told .given .1)
 
 -- src/lib.rt:151:1
 returns-2 : tie.Need-returns-2
-returns-2 c = ?
+returns-2 c = simp (c .before .before .phase .given .1) (c .busy-words .ensures)
 
 -- src/lib.rt:151:1
 returns-3 : tie.Need-returns-3
-returns-3 c = ?
+returns-3 c = simp (c .before .before .phase2 .given .1) (c .busy-words2 .ensures)
 
 pub phase-words-spec : {M : Type 1} → statement M
 phase-words-spec =

@@ -1,3 +1,8 @@
+use native.Mathlib.Omega.{arith}
+use lib.ListN.{length-set}
+use borrow.Author.Tests.{lt-ltb, le-ltb}
+use Rattle.table.proofs.Stores.{stored-laid}
+use Rattle.table.specs.Words.{listed, putPhase}
 use borrow.Author.Needs.{needs}
 use Rattle.table.proofs.put_phase_at.Statement.{statement}
 use Rattle.table.proofs.put_phase_at.Tie as tie
@@ -39,7 +44,7 @@ mul-t-2 c = search needs
 
 -- src/lib.rt:199:9
 slice-write-t-2 : tie.Need-slice-write-t-2
-slice-write-t-2 c = ?
+slice-write-t-2 c = simp length-set (omega arith)
 
 -- src/lib.rt:200:11
 add-t-3 : tie.Need-add-t-3
@@ -51,7 +56,7 @@ mul-t-3 c = search needs
 
 -- src/lib.rt:200:9
 slice-write-t-3 : tie.Need-slice-write-t-3
-slice-write-t-3 c = ?
+slice-write-t-3 c = simp length-set (omega arith)
 
 -- src/lib.rt:201:11
 add-t-4 : tie.Need-add-t-4
@@ -63,7 +68,7 @@ mul-t-4 c = search needs
 
 -- src/lib.rt:201:9
 slice-write-t-4 : tie.Need-slice-write-t-4
-slice-write-t-4 c = ?
+slice-write-t-4 c = simp length-set (omega arith)
 
 -- src/lib.rt:202:11
 add-t-5 : tie.Need-add-t-5
@@ -75,7 +80,7 @@ mul-t-5 c = search needs
 
 -- src/lib.rt:202:9
 slice-write-t-5 : tie.Need-slice-write-t-5
-slice-write-t-5 c = search needs
+slice-write-t-5 c = simp length-set (omega arith)
 
 -- src/lib.rt:192:1
 same-length : tie.Need-same-length
@@ -83,11 +88,13 @@ same-length c = search needs
 
 -- src/lib.rt:192:1
 returns : tie.Need-returns
-returns c = ?
+unfolding putPhase
+returns c = rw (lt-ltb _ _ (c .if1 .taken), ← c .before .phase-words .ensures) (stored-laid _ _ 7 (listed (c .before .phase-words .result)))
 
 -- src/lib.rt:192:1
 returns-2 : tie.Need-returns-2
-returns-2 c = ?
+unfolding putPhase
+returns-2 c = simp (le-ltb _ _ (c .if1 .left))
 
 pub put-phase-at-spec : {M : Type 1} → statement M
 put-phase-at-spec =

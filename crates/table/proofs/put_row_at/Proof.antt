@@ -1,3 +1,8 @@
+use native.Mathlib.Omega.{arith}
+use lib.ListN.{length-set}
+use borrow.Author.Tests.{lt-ltb, le-ltb}
+use Rattle.table.proofs.Stores.{stored-first}
+use Rattle.table.specs.Words.{listed, putRow}
 use borrow.Author.Needs.{needs}
 use Rattle.table.proofs.put_row_at.Statement.{statement}
 use Rattle.table.proofs.put_row_at.Tie as tie
@@ -43,7 +48,7 @@ mul-t-2 c = search needs
 
 -- src/lib.rt:177:9
 slice-write-t-2 : tie.Need-slice-write-t-2
-slice-write-t-2 c = ?
+slice-write-t-2 c = simp length-set (omega arith)
 
 -- src/lib.rt:178:20
 array-read-t : tie.Need-array-read-t
@@ -59,7 +64,7 @@ mul-t-3 c = search needs
 
 -- src/lib.rt:178:9
 slice-write-t-3 : tie.Need-slice-write-t-3
-slice-write-t-3 c = ?
+slice-write-t-3 c = simp length-set (omega arith)
 
 -- src/lib.rt:179:20
 array-read-t-2 : tie.Need-array-read-t-2
@@ -75,7 +80,7 @@ mul-t-4 c = search needs
 
 -- src/lib.rt:179:9
 slice-write-t-4 : tie.Need-slice-write-t-4
-slice-write-t-4 c = ?
+slice-write-t-4 c = simp length-set (omega arith)
 
 -- src/lib.rt:180:20
 array-read-t-3 : tie.Need-array-read-t-3
@@ -91,7 +96,7 @@ mul-t-5 c = search needs
 
 -- src/lib.rt:180:9
 slice-write-t-5 : tie.Need-slice-write-t-5
-slice-write-t-5 c = ?
+slice-write-t-5 c = simp length-set (omega arith)
 
 -- src/lib.rt:181:20
 array-read-t-4 : tie.Need-array-read-t-4
@@ -107,7 +112,7 @@ mul-t-6 c = search needs
 
 -- src/lib.rt:181:9
 slice-write-t-6 : tie.Need-slice-write-t-6
-slice-write-t-6 c = ?
+slice-write-t-6 c = simp length-set (omega arith)
 
 -- src/lib.rt:182:11
 add-t-6 : tie.Need-add-t-6
@@ -119,7 +124,7 @@ mul-t-7 c = search needs
 
 -- src/lib.rt:182:9
 slice-write-t-7 : tie.Need-slice-write-t-7
-slice-write-t-7 c = ?
+slice-write-t-7 c = simp length-set (omega arith)
 
 -- src/lib.rt:183:11
 add-t-7 : tie.Need-add-t-7
@@ -131,7 +136,7 @@ mul-t-8 c = search needs
 
 -- src/lib.rt:183:9
 slice-write-t-8 : tie.Need-slice-write-t-8
-slice-write-t-8 c = ?
+slice-write-t-8 c = simp length-set (omega arith)
 
 -- src/lib.rt:184:11
 add-t-8 : tie.Need-add-t-8
@@ -143,7 +148,7 @@ mul-t-9 c = search needs
 
 -- src/lib.rt:184:9
 slice-write-t-9 : tie.Need-slice-write-t-9
-slice-write-t-9 c = ?
+slice-write-t-9 c = simp length-set (omega arith)
 
 -- src/lib.rt:185:11
 add-t-9 : tie.Need-add-t-9
@@ -155,7 +160,7 @@ mul-t-10 c = search needs
 
 -- src/lib.rt:185:9
 slice-write-t-10 : tie.Need-slice-write-t-10
-slice-write-t-10 c = ?
+slice-write-t-10 c = simp length-set (omega arith)
 
 -- src/lib.rt:186:11
 add-t-10 : tie.Need-add-t-10
@@ -167,7 +172,7 @@ mul-t-11 c = search needs
 
 -- src/lib.rt:186:9
 slice-write-t-11 : tie.Need-slice-write-t-11
-slice-write-t-11 c = ?
+slice-write-t-11 c = simp length-set (omega arith)
 
 -- src/lib.rt:187:11
 add-t-11 : tie.Need-add-t-11
@@ -179,19 +184,21 @@ mul-t-12 c = search needs
 
 -- src/lib.rt:187:9
 slice-write-t-12 : tie.Need-slice-write-t-12
-slice-write-t-12 c = ?
+slice-write-t-12 c = simp length-set (omega arith)
 
 -- src/lib.rt:168:1
 same-length : tie.Need-same-length
-same-length c = ?
+same-length c = simp length-set
 
 -- src/lib.rt:168:1
 returns : tie.Need-returns
-returns c = ?
+unfolding putRow
+returns c = rw (lt-ltb _ _ (c .before .before .if1 .taken), ← c .before .before .before .phase-words .ensures) (stored-first _ _ _ _)
 
 -- src/lib.rt:168:1
 returns-2 : tie.Need-returns-2
-returns-2 c = ?
+unfolding putRow
+returns-2 c = simp (le-ltb _ _ (c .if1 .left))
 
 pub put-row-at-spec : {M : Type 1} → statement M
 put-row-at-spec =

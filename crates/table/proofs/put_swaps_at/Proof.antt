@@ -1,3 +1,4 @@
+use Rattle.table.specs.Words.{putSwaps}
 use borrow.Author.Needs.{needs}
 use Rattle.table.proofs.put_swaps_at.Statement.{statement}
 use Rattle.table.proofs.put_swaps_at.Tie as tie
@@ -23,7 +24,8 @@ same-length c = search needs
 
 -- src/lib.rt:207:1
 returns : tie.Need-returns
-returns c = ?
+unfolding putSwaps
+returns c = c .before .before .store .ensures
 
 pub put-swaps-at-spec : {M : Type 1} → statement M
 put-swaps-at-spec = tie.close (tie.spec mul-store add-store store-requires same-length returns)

@@ -1,3 +1,5 @@
+use borrow.Author.Tests.{lt-ltb, le-ltb}
+use Rattle.table.specs.Words.{rowIn}
 use borrow.Author.Needs.{needs}
 use Rattle.table.proofs.row_at.Statement.{statement}
 use Rattle.table.proofs.row_at.Tie as tie
@@ -164,11 +166,13 @@ no-row-requires c κs = search needs
 
 -- src/lib.rt:79:1
 returns : tie.Need-returns
-returns c = ?
+unfolding rowIn
+returns c = let p = c .before .before .before .before .before .before .before in simp (lt-ltb _ _ (p .before .before .before .before .before .before .if1 .taken), p .phase-of .ensures)
 
 -- src/lib.rt:79:1
 returns-2 : tie.Need-returns-2
-returns-2 c = ?
+unfolding rowIn
+returns-2 c = simp (le-ltb _ _ (c .before .if1 .left)) (c .no-row .ensures)
 
 pub row-at-spec : {M : Type 1} → statement M
 row-at-spec =
