@@ -90,21 +90,21 @@ isRow t k =
 unfoldable pub rowAt : List ℕ → ℕ → Row
 rowAt t i = pick (isRow t (12 * i)) (rowIn t (12 * i)) noRow
 
--- the n rows from i on, each as f has it
-unfoldable pub rowsFrom : (ℕ → Row) → ℕ → ℕ → List Row
-rowsFrom f i zero = []
-rowsFrom f i (suc n) = f i ∷ rowsFrom f (suc i) n
+-- f i, f (i + 1), ..: n of them
+unfoldable pub listFrom : {A : Type 0} → (ℕ → A) → ℕ → ℕ → List A
+listFrom f i zero = []
+listFrom f i (suc n) = f i ∷ listFrom f (suc i) n
 
 -- "The client table is lent as eight rows, one for each client."; a table of another size has no rows, and "gets 1"
 unfoldable pub rowsOf : List ℕ → List Row
-rowsOf t = pick (eqb (length t) 96) (rowsFrom (rowAt t) 0 8) []
+rowsOf t = pick (eqb (length t) 96) (listFrom (rowAt t) 0 8) []
 
 -- the eight rows as the steps read them
 abbrev pub rowRead : List ℕ → ℕ → Row
 rowRead t i = rowIn t (12 * i)
 
 abbrev pub rowsRead : List ℕ → List Row
-rowsRead t = rowsFrom (rowRead t) 0 8
+rowsRead t = listFrom (rowRead t) 0 8
 
 -- "all swaps"
 abbrev pub swapsOf : Row → ℕ
