@@ -33,6 +33,15 @@ change-row m [] i = m .nothing i
 change-row m (x ∷ table) zero = m .first x (tableWords table)
 change-row m (x ∷ table) (suc i) = m .later (wordOf x) (tableWords table) i ∙ ap (λ t. rowWords x ++ t) (change-row m table i)
 
+-- one change after the other
+pub and-then : {f e : List ℕ → ℕ → List ℕ} {g h : Row → Row} → Changer f g → Changer e h → Changer (λ t i. e (f t i) i) (λ x. h (g x))
+and-then {f} {e} {g} m n =
+    record {
+      nothing = λ i. ap (λ t. e t i) (m .nothing i) ∙ n .nothing i;
+      first = λ x t. ap (λ l. e l 0) (m .first x t) ∙ n .first (g x) t;
+      later = λ w t i. ap (λ l. e l (suc i)) (m .later w t i) ∙ n .later w (f t i) i;
+    }
+
 -- each row changed: the first, and then the others behind it
 each-later : (f : List ℕ → ℕ → List ℕ) (w v : ℕ → ℕ) (t : List ℕ)
     → ((w : ℕ → ℕ) (t : List ℕ) (i : ℕ) → f (twelve w ++ t) (suc i) ≡ twelve w ++ f t i) → f (twelve w ++ t) 0 ≡ twelve v ++ t

@@ -6,3 +6,4 @@ pub mod Encoding
 pub mod FourHolds
 pub mod Reading
 pub mod Changing
+pub mod Rows
