@@ -15,16 +15,12 @@ use Rattle.model.specs.Records.{laid}
 use Rattle.model.specs.Rows.{withSwaps, withPhase, freshRow, cleared}
 use Rattle.model.proofs.Records.{laid-none}
 use Rattle.table.specs.Words.{rowWords, tableWords, whole, listed, phaseWords, putRow, putPhase, putSwaps, eachRow, clearMark, freshen}
-use Rattle.table.proofs.Twelve.{twelve, past, next-row, next-place, whole-past, InRows, none, more}
+use Rattle.table.proofs.Twelve.{twelve, wordOf, next-row, next-place, whole-past, InRows, none, more}
 
 pub record Changer (f : List ℕ → ℕ → List ℕ) (g : Row → Row) : Type 0 where
   pub nothing : (i : ℕ) → f [] i ≡ []
   pub first : (x : Row) (t : List ℕ) → f (rowWords x ++ t) 0 ≡ rowWords (g x) ++ t
   pub later : (w : ℕ → ℕ) (t : List ℕ) (i : ℕ) → f (twelve w ++ t) (suc i) ≡ twelve w ++ f t i
-
--- word j of a row
-abbrev wordOf : Row → ℕ → ℕ
-wordOf x j = getD (rowWords x) j 0
 
 pub change-row : {f : List ℕ → ℕ → List ℕ} {g : Row → Row} → Changer f g → (table : List Row) (i : ℕ)
     → f (tableWords table) i ≡ tableWords (set table i (g (getD table i freshRow)))

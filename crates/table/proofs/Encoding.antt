@@ -1,5 +1,5 @@
 -- One row has one encoding: its words mean it, and twelve words that mean a row are that row's. Assumes nothing.
-use mathlib.Core.Path.{_≡_, refl, sym, ap, _∙_}
+use mathlib.Core.Path.{_≡_, refl, sym, ap}
 use mathlib.Core.Bool.{Bool, true, false, not}
 use mathlib.Core.List.{List, [], _∷_, _++_}
 use Prim.Native.Nat.{ℕ, zero, suc, _≤_, _<_}
@@ -14,8 +14,8 @@ use Rattle.model.specs.declared.Row.{Row}
 use Rattle.model.specs.Choice.{one, _and_}
 use Rattle.model.specs.Rows.{withHolds}
 use Rattle.model.proofs.Choice.{clash, and-parts}
+use Rattle.model.proofs.Holds.{four-holds}
 use Rattle.table.specs.Words.{phaseWords, listed, rowWords, phaseOf, rowIn, isPhase, isRow}
-use Rattle.table.proofs.Holds.{four-holds}
 use Rattle.table.proofs.Twelve.{twelve}
 
 one-back : (b : Bool) → not (eqb (one b) 0) ≡ b

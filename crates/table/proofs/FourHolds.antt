@@ -1,15 +1,14 @@
 -- Each row of a table has "four holds": kept by every change of the table, and had by every table that is read from words.
 -- Assumes nothing.
 use mathlib.Core.Path.{_≡_, refl}
-use mathlib.Core.List.{List, [], _∷_, map}
+use mathlib.Core.List.{List, [], _∷_}
 use Prim.Native.Nat.{ℕ, zero, suc, _*_}
 use lib.Dec.{eqb}
 use lib.ListN.{length, getD, set, replicate, List·getD-map}
 use Rattle.model.specs.declared.Row.{Row}
-use Rattle.model.specs.Choice.{pick}
 use Rattle.model.specs.Rows.{freshRow, cleared, clearMarks}
 use Rattle.model.proofs.Choice.{by-test}
-use Rattle.table.specs.Words.{noRow, whole, rowIn, isRow, rowAt, listFrom, rowsOf}
+use Rattle.table.specs.Words.{whole, rowIn, isRow, rowAt, listFrom, rowsOf}
 
 abbrev pub Four : Row → Type 0
 Four r = length (r .holds) ≡ 4

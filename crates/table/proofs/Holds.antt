@@ -1,19 +1,11 @@
--- The four holds of a row, one by one. Assumes nothing.
+-- A cell is among four holds when it is one of them. Assumes nothing.
 use mathlib.Core.Path.{_≡_, refl}
 use mathlib.Core.Bool.{Bool, true, false}
-use mathlib.Core.List.{List, [], _∷_}
-use Prim.Native.Nat.{ℕ, suc}
-use native.Mathlib.Omega.{arith}
+use mathlib.Core.List.{List}
+use Prim.Native.Nat.{ℕ}
 use lib.ListN.{length, getD}
 use Rattle.model.specs.Choice.{_or_, any}
-
-pub four-holds : (l : List ℕ) → length l ≡ 4 → l ≡ getD l 0 0 ∷ getD l 1 0 ∷ getD l 2 0 ∷ getD l 3 0 ∷ []
-four-holds [] e = absurd (omega arith)
-four-holds (a ∷ []) e = absurd (omega arith)
-four-holds (a ∷ b ∷ []) e = absurd (omega arith)
-four-holds (a ∷ b ∷ c ∷ []) e = absurd (omega arith)
-four-holds (a ∷ b ∷ c ∷ d ∷ []) e = refl
-four-holds (a ∷ b ∷ c ∷ d ∷ x ∷ l) e = absurd (omega arith)
+use Rattle.model.proofs.Holds.{four-holds}
 
 or-false : (b : Bool) → (b or false) ≡ b
 or-false true = refl

@@ -1,6 +1,6 @@
 -- What a loop over the eight rows keeps: the words after i rows are one row from those after i + 1, and the rows from i on are row i and
 -- those from i + 1 on. Assumes nothing.
-use mathlib.Core.Path.{_≡_, refl, ap, _∙_}
+use mathlib.Core.Path.{_≡_}
 use mathlib.Core.List.{List, _∷_}
 use Prim.Native.Nat.{ℕ, suc, _+_, _-_, _<_}
 use native.Mathlib.Numerals.{add-one}

@@ -8,8 +8,8 @@ use native.Mathlib.Omega.{arith}
 use lib.ListN.{length, getD}
 use Rattle.model.specs.declared.Row.{Row}
 use Rattle.model.specs.Rows.{freshRow}
-use Rattle.table.specs.Words.{rowWords, tableWords, rowIn, isRow, rowAt, rowRead, listFrom}
-use Rattle.table.proofs.Twelve.{twelve, next-row, InRows, none, more, row-in-past, is-row-past}
+use Rattle.table.specs.Words.{rowWords, tableWords, isRow, rowAt, rowRead, listFrom}
+use Rattle.table.proofs.Twelve.{twelve, wordOf, next-row, InRows, none, more, row-in-past, is-row-past}
 use Rattle.table.proofs.Encoding.{row-first, is-row-first, words-first}
 use Rattle.table.proofs.FourHolds.{Four, FourHolds, four-tail}
 
@@ -31,10 +31,6 @@ at-first x t e = rw (is-row-first x t) (row-first x t e)
 
 pub reads-checked : Reader rowAt
 reads-checked = record { first = at-first; later = at-later }
-
--- word j of a row
-abbrev wordOf : Row → ℕ → ℕ
-wordOf x j = getD (rowWords x) j 0
 
 pub read-row : {f : List ℕ → ℕ → Row} → Reader f → (table : List Row) → FourHolds table → (i : ℕ) → i < length table
     → f (tableWords table) i ≡ getD table i freshRow

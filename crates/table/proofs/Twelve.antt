@@ -1,18 +1,15 @@
 -- A table's words, twelve at a time: behind the words of one row everything is as it was without them, one row further.
 -- Assumes nothing.
-use mathlib.Core.Path.{_≡_, refl, sym, ap, _∙_}
-use mathlib.Core.Bool.{Bool, true, false}
+use mathlib.Core.Path.{_≡_, ap, _∙_}
 use mathlib.Core.List.{List, [], _∷_, _++_}
 use Prim.Native.Nat.{ℕ, zero, suc, _+_, _*_, _≤_}
 use native.Mathlib.Nat.{add-zero, add-suc, suc-add}
 use native.Mathlib.Omega.{arith}
 use lib.Dec.{leb·suc-suc}
-use lib.ListN.{length, getD, set, drop, length-drop, replicate}
+use lib.ListN.{length, getD, drop, length-drop}
 use lib.Seq.{drop-cons}
 use Rattle.model.specs.declared.Row.{Row}
-use Rattle.model.specs.Choice.{pick}
-use Rattle.model.specs.Rows.{freshRow}
-use Rattle.table.specs.Words.{rowWords, tableWords, whole, rowIn, isRow, rowAt, rowRead, listFrom, eachRow}
+use Rattle.table.specs.Words.{rowWords, whole, rowIn, isRow, listFrom}
 
 -- the words w 0 to w 11, and the place twelve words on
 abbrev pub twelve : (ℕ → ℕ) → List ℕ
@@ -20,6 +17,10 @@ twelve w = w 0 ∷ w 1 ∷ w 2 ∷ w 3 ∷ w 4 ∷ w 5 ∷ w 6 ∷ w 7 ∷ w 8 �
 
 abbrev pub past : ℕ → ℕ
 past k = suc (suc (suc (suc (suc (suc (suc (suc (suc (suc (suc (suc k)))))))))))
+
+-- word j of a row
+abbrev pub wordOf : Row → ℕ → ℕ
+wordOf x j = getD (rowWords x) j 0
 
 pub next-row : (i : ℕ) → 12 * suc i ≡ past (12 * i)
 next-row i = omega arith

@@ -7,7 +7,8 @@ ghost use lib.Dec.{eqb};
 ghost use Rattle.model.specs.Choice.{_and_, _or_, any, total};
 ghost use Rattle.model.specs.Rows.{freshRow, allPassed};
 ghost use Rattle.model.specs.Refusals.{holdsCell};
-ghost use Rattle.table.specs.Words.{accessOf, phaseOf, noRow, rowIn, isPhase, isRow, rowAt, rowsRead, swapsOf, busyWords, phaseWords, putRow, putPhase, putSwaps, eachRow, clearMark, freshen};
+ghost use Rattle.table.specs.Words.{accessOf, phaseOf, noRow, rowIn, isPhase, isRow, rowAt, rowsRead, swapsOf};
+ghost use Rattle.table.specs.Words.{busyWords, phaseWords, putRow, putPhase, putSwaps, eachRow, clearMark, freshen};
 use model::Access;
 use model::Phase;
 use model::Row;
@@ -233,7 +234,11 @@ fn has_passed(t: &[u32], i: u32) -> bool
     ensures { λ r. ⌜ r ≡ rowIn (now (t .entry)) (12 * i) .passed ⌝ }
 {
     let k = 12 * (i as usize);
-    if k + 11 < t.len() { t[k + 1] != 0 } else { false }
+    if k + 11 < t.len() {
+        t[k + 1] != 0
+    } else {
+        false
+    }
 }
 
 // The barriers: "if any row has not passed".
@@ -253,7 +258,10 @@ pub fn all_passed(t: &[u32]) -> bool
 fn is_among(holds: [u32; 4], cell: u32) -> bool
     ensures { λ r. ⌜ r ≡ any (eqb cell) holds ⌝ }
 {
-    either(cell == holds[0], either(cell == holds[1], either(cell == holds[2], cell == holds[3])))
+    either(
+        cell == holds[0],
+        either(cell == holds[1], either(cell == holds[2], cell == holds[3])),
+    )
 }
 
 // 11 "RETIRE of a record some row holds"

@@ -1,16 +1,13 @@
+-- `table::fresh_rows` meets its contract. The invariant: the first i rows are fresh. Assumes nothing.
 use borrow.Author.Needs.{needs}
-use Prim.Native.Nat.{_≤_, _-_}
 use mathlib.Core.Path.{_≡_, refl, _∙_}
+use Prim.Native.Nat.{_≤_, _-_}
 use native.Mathlib.Omega.{arith}
 use lib.ListN.{length}
-use Rattle.table.proofs.Loops.{each-more}
 use Rattle.table.specs.Words.{eachRow, freshen}
+use Rattle.table.proofs.Loops.{each-more}
 use Rattle.table.proofs.fresh_rows.Statement.{statement}
 use Rattle.table.proofs.fresh_rows.Tie as tie
-use Rattle.table.proofs.fresh_rows.Reads as reads
-use Rattle.table.proofs.fresh_rows.Lts as lts
-use Rattle.table.proofs.fresh_row.Reads as fresh-row-reads
-use Rattle.table.proofs.put_row_at.Reads as put-row-at-reads
 
 abbrev Inv-loop : tie.InvT-loop
 Inv-loop t₀ i₀ t i = (t ≡ eachRow freshen t₀ i) × (i ≤ 8) × (length t ≡ length t₀)
@@ -18,36 +15,28 @@ Inv-loop t₀ i₀ t i = (t ≡ eachRow freshen t₀ i) × (i ≤ 8) × (length 
 abbrev μ-loop : tie.MeasureT-loop
 μ-loop t₀ i₀ t i = 8 - i
 
--- src/lib.rt:311:5
 loop-holds : tie.Need-loop-holds Inv-loop μ-loop
 unfolding eachRow
 loop-holds c = (refl, search needs, refl)
 
--- src/lib.rt:312:26
 fresh-row-requires : tie.Need-fresh-row-requires Inv-loop μ-loop
 fresh-row-requires c κs = search needs
 
--- src/lib.rt:312:9
 put-row-at-requires : tie.Need-put-row-at-requires Inv-loop μ-loop
 put-row-at-requires c κs = search needs
 
--- src/lib.rt:313:9
 add-i : tie.Need-add-i Inv-loop μ-loop
 add-i c = search needs
 
--- src/lib.rt:311:5
 loop-less : tie.Need-loop-less Inv-loop μ-loop
 loop-less c = search needs
 
--- src/lib.rt:311:5
 loop-again : tie.Need-loop-again Inv-loop μ-loop
 loop-again c = let l = c .before .before .before .before .before .before .loop in (each-more freshen _ _ (l .inv .0) (rw (c .before .before .before .fresh-row .ensures) at (c .before .before .put-row-at .ensures)), search needs, c .before .before .put-row-at .kept .0 ∙ l .inv .2)
 
--- src/lib.rt:307:1
 same-length : tie.Need-same-length Inv-loop μ-loop
 same-length c = search needs
 
--- src/lib.rt:307:1
 returns : tie.Need-returns Inv-loop μ-loop
 returns c = let e : c .before .loop .i ≡ 8 = omega arith in rw e at (c .before .loop .inv .0)
 

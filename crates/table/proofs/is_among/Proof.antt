@@ -1,42 +1,32 @@
-use lib.Dec.{eqb}
-use mathlib.Core.Path.{sym}
-use Rattle.table.proofs.Holds.{among-four}
+-- `table::is_among` meets its contract: four holds, one by one. Assumes nothing.
 use borrow.Author.Needs.{needs}
+use mathlib.Core.Path.{sym}
+use lib.Dec.{eqb}
+use Rattle.table.proofs.Holds.{among-four}
 use Rattle.table.proofs.is_among.Statement.{statement}
 use Rattle.table.proofs.is_among.Tie as tie
-use Rattle.table.proofs.is_among.Reads as reads
-use Rattle.table.proofs.is_among.Lts as lts
-use Rattle.table.proofs.either.Reads as either-reads
 
--- src/lib.rt:256:20
 array-read-either : tie.Need-array-read-either
 array-read-either c = search needs
 
--- src/lib.rt:256:45
 array-read-either-2 : tie.Need-array-read-either-2
 array-read-either-2 c = search needs
 
--- src/lib.rt:256:70
 array-read-either-3 : tie.Need-array-read-either-3
 array-read-either-3 c = search needs
 
--- src/lib.rt:256:88
 array-read-either-4 : tie.Need-array-read-either-4
 array-read-either-4 c = search needs
 
--- src/lib.rt:256:55
 either-requires : tie.Need-either-requires
 either-requires c κs = search needs
 
--- src/lib.rt:256:30
 either-requires-2 : tie.Need-either-requires-2
 either-requires-2 c κs = search needs
 
--- src/lib.rt:256:5
 either-requires-3 : tie.Need-either-requires-3
 either-requires-3 c κs = search needs
 
--- src/lib.rt:253:1
 returns : tie.Need-returns
 returns c = let s = c .before .before .before in
     simp (c .either3 .ensures, c .before .either2 .ensures, c .before .before .either .ensures)

@@ -1,27 +1,21 @@
+-- `table::phase_of` meets its contract: the three ways of the tests are those of the definition. Assumes nothing.
+use borrow.Author.Needs.{needs}
 use borrow.Author.Tests.{lt-ltb, le-ltb}
 use Rattle.table.specs.Words.{phaseOf}
-use borrow.Author.Needs.{needs}
 use Rattle.table.proofs.phase_of.Statement.{statement}
 use Rattle.table.proofs.phase_of.Tie as tie
-use Rattle.table.proofs.phase_of.Reads as reads
-use Rattle.table.proofs.phase_of.Lts as lts
-use Rattle.table.proofs.access_of.Reads as access-of-reads
 
--- src/lib.rt:55:9
 access-of-requires : tie.Need-access-of-requires
 access-of-requires c κs = search needs
 
--- src/lib.rt:52:1
 returns : tie.Need-returns
 unfolding phaseOf
 returns c = simp (lt-ltb _ _ (c .if1 .taken))
 
--- src/lib.rt:52:1
 returns-2 : tie.Need-returns-2
 unfolding phaseOf
 returns-2 c = simp (le-ltb _ _ (c .before .if1 .left), lt-ltb _ _ (c .if2 .taken), c .before .before .access-of .ensures)
 
--- src/lib.rt:52:1
 returns-3 : tie.Need-returns-3
 unfolding phaseOf
 returns-3 c = simp (le-ltb _ _ (c .before .if1 .left), le-ltb _ _ (c .if2 .left), c .before .before .access-of .ensures)
