@@ -15,7 +15,8 @@ use Rattle.model.specs.Choice.{pick, all}
 use Rattle.model.specs.Rows.{withSwaps, withPhase, freshRow, clearMarks}
 use Rattle.model.specs.Rules.{detachedRight, rowRight, R6}
 use Rattle.model.proofs.Choice.{clash, and-parts}
-use Rattle.table.specs.Words.{tableWords, noRow, rowIn, isRow, rowAt, listFrom, rowsOf, rowsRead, putRow, putPhase, putSwaps, eachRow, clearMark, freshen}
+use Rattle.table.specs.Words.{tableWords, noRow, rowIn, isRow, rowAt, listFrom, rowsOf, rowsRead}
+use Rattle.table.specs.Words.{putRow, putPhase, putSwaps, eachRow, clearMark, freshen}
 use Rattle.table.proofs.Twelve.{in-rows}
 use Rattle.table.proofs.FourHolds.{FourHolds}
 use Rattle.table.proofs.Reading.{reads, reads-checked, read-row, read-rows, words-of}
@@ -93,7 +94,8 @@ unfolding listFrom
 all-from p f i zero e j h = absurd (omega arith)
 all-from p f i (suc n) e zero h = rw (add-zero i) (and-parts (p (f i)) (all p (listFrom f (suc i) n)) e .0)
 all-from p f i (suc n) e (suc j) h =
-    rw (add-suc i j) (rw (suc-add i j) at (all-from p f (suc i) n (and-parts (p (f i)) (all p (listFrom f (suc i) n)) e .1) j (omega arith)))
+    let rest = and-parts (p (f i)) (all p (listFrom f (suc i) n)) e .1 in
+    rw (add-suc i j) (rw (suc-add i j) at (all-from p f (suc i) n rest j (omega arith)))
 
 module _ (dir : List ℕ) (v : Move) (arena : List ℕ) where
   -- "Row bytes that mean no row .. break R6"

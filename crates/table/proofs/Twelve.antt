@@ -36,7 +36,9 @@ pub data InRows : ℕ → List ℕ → Type 0 where
 split : (n j : ℕ) (t : List ℕ) → j + n ≤ length t → drop j t ≡ listFrom (λ i. getD t i 0) j n ++ drop (j + n) t
 unfolding listFrom
 split zero j t h = rw add-zero
-split (suc n) j t h = drop-cons t j 0 (omega arith) ∙ rw add-suc (ap (λ l. getD t j 0 ∷ l) (rw suc-add at (split n (suc j) t (omega arith))))
+split (suc n) j t h =
+    drop-cons t j 0 (omega arith)
+    ∙ rw add-suc (ap (λ l. getD t j 0 ∷ l) (rw suc-add at (split n (suc j) t (omega arith))))
 
 first-twelve : (t : List ℕ) → 12 ≤ length t → t ≡ twelve (λ i. getD t i 0) ++ drop 12 t
 unfolding listFrom

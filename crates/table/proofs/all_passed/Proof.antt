@@ -23,7 +23,10 @@ has-passed-requires : tie.Need-has-passed-requires Inv-loop μ-loop
 has-passed-requires c κs = search needs
 
 returns : tie.Need-returns Inv-loop μ-loop
-returns c = rw (list-next _ 8 _ (c .before .before .loop-test .taken), sym (c .before .has-passed .ensures) ∙ not-true _ (c .if1 .taken)) at (c .before .before .before .loop .inv .0)
+returns c =
+    let l = c .before .before in
+    rw (list-next _ 8 _ (l .loop-test .taken), sym (c .before .has-passed .ensures) ∙ not-true _ (c .if1 .taken)) at
+    (l .before .loop .inv .0)
 
 add-i : tie.Need-add-i Inv-loop μ-loop
 add-i c = search needs
@@ -32,7 +35,12 @@ loop-less : tie.Need-loop-less Inv-loop μ-loop
 loop-less c = search needs
 
 loop-again : tie.Need-loop-again Inv-loop μ-loop
-loop-again c = (rw (list-next _ 8 _ (c .before .before .loop-test .taken), sym (c .before .has-passed .ensures) ∙ not-false _ (c .if1 .left)) at (c .before .before .before .loop .inv .0), search needs)
+loop-again c =
+    let l = c .before .before in (
+      rw (list-next _ 8 _ (l .loop-test .taken), sym (c .before .has-passed .ensures) ∙ not-false _ (c .if1 .left)) at
+          (l .before .loop .inv .0),
+      search needs,
+    )
 
 returns-2 : tie.Need-returns-2 Inv-loop μ-loop
 unfolding listFrom

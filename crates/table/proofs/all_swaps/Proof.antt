@@ -1,4 +1,5 @@
--- `table::all_swaps` meets its contract. The invariant: the sum so far and that over the rows from i on make the whole, and the sum so far fits. Assumes nothing.
+-- `table::all_swaps` meets its contract. The invariant: the sum so far and that over the rows from i on make the whole.
+-- Assumes nothing.
 use borrow.Author.Needs.{needs}
 use mathlib.Core.Path.{ap, _≡_}
 use Prim.Native.Nat.{_≤_, _-_, _+_, _*_}
@@ -11,7 +12,8 @@ use Rattle.table.proofs.all_swaps.Statement.{statement}
 use Rattle.table.proofs.all_swaps.Tie as tie
 
 abbrev Inv-loop : tie.InvT-loop
-Inv-loop t sum₀ i₀ sum i = (sum + total swapsOf (listFrom (rowRead t) i (8 - i)) ≡ total swapsOf (rowsRead t)) × (i ≤ 8) × (sum ≤ i * 4294967295)
+Inv-loop t sum₀ i₀ sum i =
+    (sum + total swapsOf (listFrom (rowRead t) i (8 - i)) ≡ total swapsOf (rowsRead t)) × (i ≤ 8) × (sum ≤ i * 4294967295)
 
 abbrev μ-loop : tie.MeasureT-loop
 μ-loop t sum₀ i₀ sum i = 8 - i
@@ -35,7 +37,8 @@ loop-less : tie.Need-loop-less Inv-loop μ-loop
 loop-less c = search needs
 
 loop-again : tie.Need-loop-again Inv-loop μ-loop
-loop-again c = let l = c .before .before in
+loop-again c =
+    let l = c .before .before in
     let n = ap (total swapsOf) (list-next (rowRead (l .before .before .args .t .now)) 8 (l .loop .i) (c .before .loop-test .taken)) in
     (omega (arith, n, c .swaps-at .ensures), search needs, search needs)
 

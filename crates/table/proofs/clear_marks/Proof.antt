@@ -29,7 +29,10 @@ loop-less : tie.Need-loop-less Inv-loop μ-loop
 loop-less c = search needs
 
 loop-again : tie.Need-loop-again Inv-loop μ-loop
-loop-again c = let l = c .before .before .before .before .before .loop in (each-more clearMark _ _ (l .inv .0) (c .before .before .clear-mark .ensures), search needs, c .before .before .clear-mark .kept .0 ∙ l .inv .2)
+loop-again c =
+    let p = c .before .before in
+    let l = p .before .before .before .loop in
+    (each-more clearMark _ _ (l .inv .0) (p .clear-mark .ensures), search needs, p .clear-mark .kept .0 ∙ l .inv .2)
 
 same-length : tie.Need-same-length Inv-loop μ-loop
 same-length c = search needs

@@ -32,7 +32,13 @@ loop-less : tie.Need-loop-less Inv-loop μ-loop
 loop-less c = search needs
 
 loop-again : tie.Need-loop-again Inv-loop μ-loop
-loop-again c = let l = c .before .before .before .before .before .before .loop in (each-more freshen _ _ (l .inv .0) (rw (c .before .before .before .fresh-row .ensures) at (c .before .before .put-row-at .ensures)), search needs, c .before .before .put-row-at .kept .0 ∙ l .inv .2)
+loop-again c =
+    let p = c .before .before in
+    let l = p .before .before .before .before .loop in (
+      each-more freshen _ _ (l .inv .0) (rw (p .before .fresh-row .ensures) at (p .put-row-at .ensures)),
+      search needs,
+      p .put-row-at .kept .0 ∙ l .inv .2,
+    )
 
 same-length : tie.Need-same-length Inv-loop μ-loop
 same-length c = search needs

@@ -26,7 +26,10 @@ is-among-requires : tie.Need-is-among-requires Inv-loop μ-loop
 is-among-requires c κs = search needs
 
 returns : tie.Need-returns Inv-loop μ-loop
-returns c = rw (list-next _ 8 _ (c .before .before .before .before .loop-test .taken), ← c .before .before .before .row-at .ensures, sym (c .before .is-among .ensures) ∙ c .if1 .taken) at (c .before .before .before .before .before .loop .inv .0)
+returns c =
+    let l = c .before .before .before in
+    rw (list-next _ 8 _ (l .before .loop-test .taken), ← l .row-at .ensures, sym (c .before .is-among .ensures) ∙ c .if1 .taken) at
+    (l .before .before .loop .inv .0)
 
 add-i : tie.Need-add-i Inv-loop μ-loop
 add-i c = search needs
@@ -35,7 +38,12 @@ loop-less : tie.Need-loop-less Inv-loop μ-loop
 loop-less c = search needs
 
 loop-again : tie.Need-loop-again Inv-loop μ-loop
-loop-again c = (rw (list-next _ 8 _ (c .before .before .before .before .loop-test .taken), ← c .before .before .before .row-at .ensures, sym (c .before .is-among .ensures) ∙ c .if1 .left) at (c .before .before .before .before .before .loop .inv .0), search needs)
+loop-again c =
+    let l = c .before .before .before in (
+      rw (list-next _ 8 _ (l .before .loop-test .taken), ← l .row-at .ensures, sym (c .before .is-among .ensures) ∙ c .if1 .left) at
+          (l .before .before .loop .inv .0),
+      search needs,
+    )
 
 returns-2 : tie.Need-returns-2 Inv-loop μ-loop
 unfolding listFrom

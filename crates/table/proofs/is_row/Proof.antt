@@ -32,7 +32,9 @@ shared-slice-read-if3 c = search needs
 
 returns-2 : tie.Need-returns-2
 unfolding isRow
-returns-2 c = simp (lt-ltb _ _ (c .before .before .before .before .if1 .taken), le-leb _ _ (c .before .before .if2 .left), lt-leb _ _ (c .if3 .taken))
+returns-2 c =
+    let m = c .before .before in
+    simp (lt-ltb _ _ (m .before .before .if1 .taken), le-leb _ _ (m .if2 .left), lt-leb _ _ (c .if3 .taken))
 
 add-is-phase : tie.Need-add-is-phase
 add-is-phase c = search needs
@@ -84,7 +86,9 @@ is-phase-requires c κs = search needs
 
 returns-3 : tie.Need-returns-3
 unfolding isRow
-returns-3 c = simp (lt-ltb _ _ (c .before .before .before .before .before .before .before .before .before .before .if1 .taken), le-leb _ _ (c .before .before .before .before .before .before .before .before .if2 .left), le-leb _ _ (c .before .before .before .before .before .before .if3 .left)) (c .is-phase .ensures)
+returns-3 c =
+    let m = c .before .before .before .before .before .before in
+    simp (lt-ltb _ _ (m .before .before .before .before .if1 .taken), le-leb _ _ (m .before .before .if2 .left), le-leb _ _ (m .if3 .left)) (c .is-phase .ensures)
 
 returns-4 : tie.Need-returns-4
 unfolding isRow

@@ -124,7 +124,9 @@ no-row-requires c κs = search needs
 
 returns : tie.Need-returns
 unfolding rowIn
-returns c = let p = c .before .before .before .before .before .before .before in simp (lt-ltb _ _ (p .before .before .before .before .before .before .if1 .taken), p .phase-of .ensures)
+returns c =
+    let p = c .before .before .before .before .before .before .before in
+    simp (lt-ltb _ _ (p .before .before .before .before .before .before .if1 .taken), p .phase-of .ensures)
 
 returns-2 : tie.Need-returns-2
 unfolding rowIn
