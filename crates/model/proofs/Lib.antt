@@ -15,3 +15,5 @@ pub mod Fill
 pub mod Wording
 pub mod Fresh
 pub mod Sizes
+pub mod Records
+pub mod Holds
