@@ -13,11 +13,11 @@ use Rattle.model.specs.declared.Answer.{Answer}
 use Rattle.model.specs.declared.Phase.{Phase}
 use Rattle.model.specs.declared.Phase.the-variants.{Resting, Ready, Waiting}
 use Rattle.model.specs.declared.Row.{Row}
-use Rattle.model.specs.Choice.{_and_}
 use Rattle.model.specs.Rows.{freshRow}
 use Rattle.model.specs.State.{State}
 use Rattle.model.specs.Answers.{number, Outcome}
 use Rattle.model.specs.Steps.{Step, act}
+use Rattle.demands.specs.Promises.{TwoOrThree, two, three}
 use Rattle.demands.specs.Log.{line, Log, after, log, said, ownAnswers, sinceAsked}
 use Rattle.demands.proofs.Lists.{getD-fresh, set-cases, and-false}
 use Rattle.demands.proofs.RowLaws.{cleared-get}
@@ -25,15 +25,10 @@ use Rattle.demands.proofs.Did.{Turn, handles, readies, waits-on, swaps,
 use Rattle.demands.proofs.Did.{acts, did}
 use Rattle.demands.proofs.Always.{always}
 
--- what a client has heard, the last first, when its access can be done: 31, or 32 and then 33
-pub data Heard (a : List ℕ) : Type 0 where
-  two : (k : List ℕ) → a ≡ 31 ∷ k → Heard a
-  three : (k : List ℕ) → a ≡ 33 ∷ (32 ∷ k) → Heard a
-
 -- what it has heard in each phase
 data Since : Phase → List ℕ → Type 0 where
   resting : {a : List ℕ} → Since Resting a
-  ready : {c : ℕ} {x : Access} {a : List ℕ} → Heard a → Since (Ready c x) a
+  ready : {c : ℕ} {x : Access} {a : List ℕ} → TwoOrThree a → Since (Ready c x) a
   waiting : {c : ℕ} {x : Access} (k : List ℕ) → Since (Waiting c x) (32 ∷ k)
 
 record Phases (k : List Row) (l : Log) : Type 0 where
@@ -47,7 +42,7 @@ same-phase {k} cleared i = ap (λ (r : Row). r .phase) (cleared-get k i)
 swapped : {c d : ℕ} {x : Access} {a : List ℕ} → Since (Waiting c x) a → Since (Ready d x) (33 ∷ a)
 swapped (waiting k) = ready (three k refl)
 
-done : {c : ℕ} {x : Access} {a : List ℕ} → Since (Ready c x) a → Heard a
+done : {c : ℕ} {x : Access} {a : List ℕ} → Since (Ready c x) a → TwoOrThree a
 done (ready h) = h
 
 turn-since : {Right : Answer → Type 0} {r r′ : Row} {x : Answer} {a : List ℕ} → Turn Right r x r′ → Since (r .phase) a
@@ -59,7 +54,7 @@ turn-since (swaps e _ q p) h = rw (p, e) (swapped (rw q at h))
 turn-since (ends _ _ _ _ p _) h = rw p resting
 
 turn-ended : {Right : Answer → Type 0} {r r′ : Row} {x : Answer} {a : List ℕ} → Turn Right r x r′ → 34 ≤ number x → Since (r .phase) a
-    → Heard a
+    → TwoOrThree a
 turn-ended (handles e _ _) b h = absurd (omega arith)
 turn-ended (readies e _ _) b h = absurd (omega arith)
 turn-ended (waits-on e _ _) b h = absurd (omega arith)
@@ -84,19 +79,19 @@ did-since {s = s} {t = t} {l = l} e (acts {x = x} {r = r} p q b _ u) h = record 
 }
 
 did-ended : {Right : Answer → Type 0} {s : State} {t : Step} {o : Outcome} {l : Log} → Did Right s t o → 34 ≤ number (o .answer)
-    → Phases (s .table) l → Heard (ownAnswers (t .who) l)
+    → Phases (s .table) l → TwoOrThree (ownAnswers (t .who) l)
 did-ended (refuses b) n h = absurd (omega arith)
 did-ended (stays z) n h = absurd (omega arith)
 did-ended (keeps z _ b _ _) n h = absurd (omega arith)
 did-ended {t = t} {l = l} (acts p q _ _ u) n h =
     let e : t .who ≡ suc (pred (t .who)) = omega arith in
-    subst⁻¹ (λ (w : ℕ). Heard (ownAnswers w l)) e (turn-ended u n (h .since (pred (t .who))))
+    subst⁻¹ (λ (w : ℕ). TwoOrThree (ownAnswers w l)) e (turn-ended u n (h .since (pred (t .who))))
 
 phases : (l : List Step) → Phases (after l .table) (log l)
 phases [] = record { since = λ i. rw (getD-fresh 8 i freshRow) resting }
 phases (t ∷ l) = let I = always {X = ⊥} l in did-since (I .eight) (did (after l) (said (log l)) t I) (phases l)
 
-pub access-heard : (l : List Step) (t : Step) → 34 ≤ number (act (after l) t .answer) → Heard (ownAnswers (t .who) (log l))
+pub access-heard : (l : List Step) (t : Step) → 34 ≤ number (act (after l) t .answer) → TwoOrThree (ownAnswers (t .who) (log l))
 access-heard l t n = did-ended (did (after l) (said (log l)) t (always {X = ⊥} l)) n (phases l)
 
 -- how many: this step and those back to its READ or WRITE
@@ -105,7 +100,7 @@ pub access-takes : (l : List Step) (t : Step) → 34 ≤ number (act (after l) t
 access-takes l t n = rw (eq-eqb (t .who) (t .who) refl, le-leb 20 (number (act (after l) t .answer)) (omega arith))
     (count (number (act (after l) t .answer)) n (access-heard l t n))
   where
-    count : (x : ℕ) → 34 ≤ x → Heard (ownAnswers (t .who) (log l))
+    count : (x : ℕ) → 34 ≤ x → TwoOrThree (ownAnswers (t .who) (log l))
         → (sinceAsked (x ∷ ownAnswers (t .who) (log l)) ≡ 2) ⊎ (sinceAsked (x ∷ ownAnswers (t .who) (log l)) ≡ 3)
     count x b (two k e) = inl (rw (ne-eqb x 31 (omega arith), ne-eqb x 32 (omega arith), e) refl)
     count x b (three k e) = inr (rw (ne-eqb x 31 (omega arith), ne-eqb x 32 (omega arith), e) refl)

@@ -16,7 +16,7 @@ use Rattle.model.specs.Kinds.{cells, words}
 use Rattle.model.specs.Records.{place, word, header, plain, label, labelOf, wordsAt}
 use Rattle.model.specs.Rows.{freshRow, withPassed, cleared, allPassed}
 use Rattle.model.specs.State.{Stage, firstBarrier, copying, stageOf, inHand, rise, entry, State}
-use Rattle.model.specs.KeeperSteps.{barrier, startCopying, replicaWord, copyWord}
+use Rattle.model.specs.KeeperSteps.{startCopying, replicaWord, copyWord}
 use Rattle.model.specs.Steps.{Step, ADVANCE}
 use Rattle.model.specs.Rules as rules
 use Rattle.model.proofs.Choice.{by-test, same-or-not}
@@ -31,7 +31,7 @@ use Rattle.demands.proofs.Inv.{Block, in-entry, in-other, Count, Core, 
 use Rattle.demands.proofs.Blocks.{meter-lt, home-lt, home-entry, home-real, copied-le, from-kind}
 use Rattle.demands.proofs.Entries.{carry-entry}
 use Rattle.demands.proofs.RowLaws.{one-early, carry-phase, marked, cleared-passed, cleared-get, passed-get}
-use Rattle.demands.proofs.Keeping.{Good, keeps}
+use Rattle.demands.proofs.Keeping.{Good}
 
 -- the move at the stage of number k, with n words copied
 abbrev pub restaged : Move → ℕ → ℕ → Move

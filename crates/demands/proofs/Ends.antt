@@ -24,7 +24,7 @@ use Rattle.model.proofs.CellMap.{run-map}
 use Rattle.model.proofs.Counts.{rise-is}
 use Rattle.demands.specs.Log.{Client, Account}
 use Rattle.demands.proofs.Stages.{Early, Late, not-both}
-use Rattle.demands.proofs.Owners.{other, repaint, repaint-cases, owns-keep, mapped-run}
+use Rattle.demands.proofs.Owners.{repaint, repaint-cases, owns-keep, mapped-run}
 use Rattle.demands.proofs.Inv.{Flag, HoldOK, empty, here, was, RowOK, HeadOK, own-head, flag-head, Sides, early, late, Block}
 use Rattle.demands.proofs.Inv.{in-entry, in-other, Core, Inv}
 use Rattle.demands.proofs.Blocks.{meter-lt, from-kind}

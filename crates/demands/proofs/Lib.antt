@@ -26,3 +26,4 @@ pub mod FromRules
 pub mod ToRules
 pub mod Kept
 pub mod Runs
+pub mod Promised

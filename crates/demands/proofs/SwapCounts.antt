@@ -11,8 +11,8 @@ use borrow.Author.Tests.{eq-eqb, ne-eqb}
 use Rattle.model.specs.declared.Answer.{Answer}
 use Rattle.model.specs.declared.Answer.the-variants.{Refused, BarrierOpen}
 use Rattle.model.specs.declared.Row.{Row}
-use Rattle.model.specs.Choice.{_and_, one, total}
-use Rattle.model.specs.Records.{header, flagged}
+use Rattle.model.specs.Choice.{one, total}
+use Rattle.model.specs.Records.{flagged}
 use Rattle.model.specs.Rows.{freshRow, clearMarks}
 use Rattle.model.specs.State.{State}
 use Rattle.model.specs.Answers.{number, Outcome}

@@ -15,5 +15,4 @@ pub mod Fill
 pub mod Wording
 pub mod Fresh
 pub mod Sizes
-pub mod Records
 pub mod Holds
