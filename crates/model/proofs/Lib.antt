@@ -9,3 +9,4 @@ pub mod Says
 pub mod Stages
 pub mod Readings
 pub mod Fresh
+pub mod Records
