@@ -10,3 +10,4 @@ pub mod Stages
 pub mod Readings
 pub mod Fresh
 pub mod Records
+pub mod Covers
