@@ -167,3 +167,14 @@ far-block m c n l h =
     let p = word-out m (c / 64) (lowMask (c % 64) n) (omega arith) in
     let q = word-out m (c / 64 + 1) (highMask (c % 64) n) (omega arith) in
     (rw (p .0) (q .0), rw (p .0) (and-true (freeWord m (c / 64) (lowMask (c % 64) n)) (freeWord m (c / 64 + 1) (highMask (c % 64) n)) (p .1) (q .1)))
+
+-- how the code's numbers enter: the two masks, the map after the first
+module _ (m : List ℕ) (c n : ℕ) {lo hi : ℕ} {m′ : List ℕ}
+    (e : lo ≡ lowMask (c % 64) n) (f : hi ≡ highMask (c % 64) n) (g : m′ ≡ layWord m (c / 64) lo) where
+  pub block-free : {p q : Bool} → p ≡ freeWord m (c / 64) lo → q ≡ freeWord m′ (c / 64 + 1) hi → (p and q) ≡ free m c n
+  unfolding free
+  block-free h k = rw (h, k, g, e, f)
+
+  pub block-laid : {m″ : List ℕ} → m″ ≡ layWord m′ (c / 64 + 1) hi → m″ ≡ lay m c n
+  unfolding lay
+  block-laid h = rw (h, g, e, f)

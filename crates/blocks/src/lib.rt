@@ -68,10 +68,10 @@ pub fn entry_of(dir: &[u16; 256], meter: u32) -> u32
 pub fn is_early(stage: u32) -> bool
     ensures { λ r. ⌜ r ≡ early (stageOf stage) ⌝ }
 {
-    match stage {
-        1..=3 => true,
-        _ => false,
+    if stage == 0 {
+        return false;
     }
+    stage < 4
 }
 
 pub fn is_late(stage: u32) -> bool

@@ -123,6 +123,12 @@ module _ {A : Type 0} where
   all-get P (x ∷ l) zero h p = h .0
   all-get P (x ∷ l) (suc i) h p = all-get P l i (h .1) p
 
+  -- within a list what lies past its end does not matter
+  pub getD-in : (l : List A) (i : ℕ) (d e : A) → i < length l → getD l i d ≡ getD l i e
+  getD-in [] i d e h = absurd (omega arith)
+  getD-in (x ∷ l) zero d e h = refl
+  getD-in (x ∷ l) (suc i) d e h = getD-in l i d e (omega arith)
+
   pub all-replicate : (P : A → Type 0) (n : ℕ) (x : A) → P x → All P (replicate n x)
   all-replicate P zero x p = tt
   all-replicate P (suc n) x p = (p, all-replicate P n x p)

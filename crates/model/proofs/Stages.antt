@@ -2,6 +2,8 @@
 use mathlib.Core.Path.{_≡_, refl}
 use Prim.Native.Nat.{ℕ, zero, suc, _<_}
 use native.Mathlib.Omega.{arith}
+use lib.Dec.{eqb, ltb}
+use borrow.Author.Tests.{le-ltb, ne-eqb}
 use Rattle.model.specs.State.{Stage, idle, firstBarrier, copying, secondBarrier, thirdBarrier, stageOf}
 use Rattle.model.specs.Rules.{early, late}
 use Rattle.model.proofs.Says.{Says, says-yes, says-no}
@@ -40,6 +42,23 @@ says-late firstBarrier = says-no
 says-late copying = says-no
 says-late secondBarrier = says-no
 says-late thirdBarrier = says-yes
+
+-- the same by number
+pub early-number : (n : ℕ) → (n ≡ 0 → ⊥) → ltb n 4 ≡ early (stageOf n)
+early-number zero h = absurd (h refl)
+early-number (suc zero) h = refl
+early-number (suc (suc zero)) h = refl
+early-number (suc (suc (suc zero))) h = refl
+early-number (suc (suc (suc (suc zero)))) h = refl
+early-number (suc (suc (suc (suc (suc n))))) h = le-ltb (suc (suc (suc (suc (suc n))))) 4 (omega arith)
+
+pub late-number : (n : ℕ) → eqb n 4 ≡ late (stageOf n)
+late-number zero = refl
+late-number (suc zero) = refl
+late-number (suc (suc zero)) = refl
+late-number (suc (suc (suc zero))) = refl
+late-number (suc (suc (suc (suc zero)))) = refl
+late-number (suc (suc (suc (suc (suc n))))) = ne-eqb (suc (suc (suc (suc (suc n))))) 4 (λ e. omega arith)
 
 -- among the numbers that are a stage only 0 is none
 pub idle-zero : (n : ℕ) → n < 5 → Idle (stageOf n) → n ≡ 0
