@@ -3,7 +3,7 @@
 ghost use mathlib.Core.Path.{_≡_};
 ghost use lib.ListN.{getD, set, replicate};
 ghost use Rattle.model.specs.Kinds.{ofKind};
-ghost use Rattle.model.specs.Records.{start, place, labelOf, payloadPlace, newRecord, laid};
+ghost use Rattle.model.specs.Records.{start, place, header, label, labelOf, kindOf, payloadPlace, newRecord, laid};
 ghost use Rattle.model.specs.ClientSteps.{changed};
 ghost use Rattle.record.specs.Words.{unpacked, packed, unpackedLabel};
 
@@ -116,6 +116,20 @@ pub fn store(arena: &mut [u32], at: usize, w: u32)
     if at < arena.len() {
         arena[at] = w;
     }
+}
+
+pub fn header_at(arena: &[u32], cell: u32) -> u32
+    ensures { λ r. ⌜ r ≡ header (now (arena .entry)) cell ⌝ }
+{
+    load(arena, place(cell, 0))
+}
+
+// "kind read from" the label of the record at a cell.
+pub fn lengths_at(arena: &[u32], cell: u32) -> model::Lengths
+    ensures { λ r. ⌜ r ≡ ofKind (kindOf (label (now (arena .entry)) cell)) ⌝ }
+{
+    let l = unpack_label(load(arena, place(cell, 1)));
+    lengths_of(l.kind)
 }
 
 // The word that a client's step changed.
