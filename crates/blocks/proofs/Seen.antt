@@ -40,8 +40,8 @@ pub cells-small : (arena : List ℕ) (c : ℕ) → cellsAt arena c < 64
 cells-small arena c = by-kind-small (kindOf (label arena c))
 
 -- how the code reads them
-pub cells-read : (arena : List ℕ) (c : ℕ) {l : ℕ} {n : Lengths} → l ≡ label arena c → n ≡ ofKind (kindOf l) → n .cells ≡ cellsAt arena c
-cells-read arena c e f = rw (f, e)
+pub cells-read : (arena : List ℕ) (c : ℕ) {n : Lengths} → n ≡ ofKind (kindOf (label arena c)) → n .cells ≡ cellsAt arena c
+cells-read arena c e = rw e
 
 -- the move's other block, by the three ways a stage can go
 module _ (v : Move) (arena : List ℕ) where

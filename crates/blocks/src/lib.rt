@@ -3,8 +3,7 @@
 ghost use mathlib.Core.Path.{_≡_};
 ghost use Prim.Native.Nat.{_<_};
 ghost use lib.ListN.{length};
-ghost use Rattle.model.specs.Kinds.{ofKind};
-ghost use Rattle.model.specs.Records.{header, label, kindOf, cellsAt};
+ghost use Rattle.model.specs.Records.{cellsAt};
 ghost use Rattle.model.specs.State.{stageOf, entry};
 ghost use Rattle.model.specs.Rules.{early, late, R3};
 ghost use Rattle.model.specs.Choice.{every};
@@ -22,28 +21,6 @@ const NONE: u32 = 65535;
 pub struct Block {
     pub start: u32,
     pub cells: u32,
-}
-
-// "Word 0 of a record is its header"
-pub fn header_at(arena: &[u32], c: u32) -> u32
-    ensures { λ r. ⌜ r ≡ header (now (arena .entry)) c ⌝ }
-{
-    record::load(arena, record::place(c, 0))
-}
-
-// "Word 1 is the label"
-pub fn label_at(arena: &[u32], c: u32) -> u32
-    ensures { λ r. ⌜ r ≡ label (now (arena .entry)) c ⌝ }
-{
-    record::load(arena, record::place(c, 1))
-}
-
-// "kind read from it": the lengths of the record that has a label.
-pub fn lengths_by(label: u32) -> model::Lengths
-    ensures { λ r. ⌜ r ≡ ofKind (kindOf label) ⌝ }
-{
-    let l = record::unpack_label(label);
-    record::lengths_of(l.kind)
 }
 
 fn wide(x: u16) -> u32
@@ -136,7 +113,7 @@ fn lay_record(seen: &mut [u64; 16], arena: &[u32], c: u32) -> bool
     if CELLS <= c {
         return true;
     }
-    let l = lengths_by(label_at(arena, c));
+    let l = record::lengths_at(arena, c);
     lay_block(seen, c, l.cells)
 }
 
@@ -159,7 +136,7 @@ fn other_block(mv: model::Move, arena: &[u32]) -> Block
     ensures { λ r. ⌜ r ≡ otherBlock (stageOf (mv .stage)) mv (now (arena .entry)) ⌝ }
 {
     let from = mv.from as u32;
-    let l = lengths_by(label_at(arena, from));
+    let l = record::lengths_at(arena, from);
     if is_early(mv.stage) {
         return Block {
             start: mv.target as u32,

@@ -16,27 +16,20 @@ returns c =
     let args = c .before .before .args in
     let f = far-block (now (args .seen)) (args .c) (cellsAt (now (args .arena)) (args .c)) (c .before .before .pre) (omega arith) in (sym (f .1), sym (f .0))
 
-label-at-requires : tie.Need-label-at-requires
-label-at-requires c κs = search needs
-
-lengths-by-requires : tie.Need-lengths-by-requires
-lengths-by-requires c κs = search needs
+lengths-at-requires : tie.Need-lengths-at-requires
+lengths-at-requires c κs = search needs
 
 lay-block-requires : tie.Need-lay-block-requires
 lay-block-requires c κs =
-    let b = c .before .before .before .before .before in
-    (rw (cells-read (now (b .args .arena)) (b .args .c) (c .before .before .label-at .ensures) (c .before .lengths-by .ensures)) (cells-small (now (b .args .arena)) (b .args .c)), b .pre)
+    let b = c .before .before .before .before in
+    (rw (cells-read (now (b .args .arena)) (b .args .c) (c .before .lengths-at .ensures)) (cells-small (now (b .args .arena)) (b .args .c)), b .pre)
 
 returns-2 : tie.Need-returns-2
 returns-2 c =
-    let b = c .before .before .before in
-    let b2 = b .before .before .before in
-    let n = cells-read (now (b2 .args .arena)) (b2 .args .c) (b .label-at .ensures) (c .before .before .lengths-by .ensures) in (
-      c .lay-block .ensures .0 ∙ ap (free (now (b2 .args .seen)) (b2 .args .c)) n,
-      c .lay-block .ensures .1
-          ∙ ap (lay (now (b2 .args .seen)) (b2 .args .c)) n,
-    )
+    let b = c .before .before .before .before .before in
+    let n = cells-read (now (b .args .arena)) (b .args .c) (c .before .before .lengths-at .ensures) in
+    (c .lay-block .ensures .0 ∙ ap (free (now (b .args .seen)) (b .args .c)) n, c .lay-block .ensures .1
+    ∙ ap (lay (now (b .args .seen)) (b .args .c)) n)
 
 pub lay-record-spec : {M : Type 1} → statement M
-lay-record-spec =
-    tie.close (tie.spec returns label-at-requires lengths-by-requires lay-block-requires returns-2)
+lay-record-spec = tie.close (tie.spec returns lengths-at-requires lay-block-requires returns-2)

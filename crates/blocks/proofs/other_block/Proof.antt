@@ -11,23 +11,20 @@ use Rattle.blocks.proofs.other_block.Tie as tie
 cast-from : tie.Need-cast-from
 cast-from c = search needs
 
-label-at-requires : tie.Need-label-at-requires
-label-at-requires c κs = search needs
-
-lengths-by-requires : tie.Need-lengths-by-requires
-lengths-by-requires c κs = search needs
+lengths-at-requires : tie.Need-lengths-at-requires
+lengths-at-requires c κs = search needs
 
 is-early-requires : tie.Need-is-early-requires
 is-early-requires c κs = search needs
 
-cast-t7 : tie.Need-cast-t7
-cast-t7 c = search needs
+cast-t6 : tie.Need-cast-t6
+cast-t6 c = search needs
 
 returns : tie.Need-returns
 returns c =
     let b = c .before .before .before in
-    let b2 = b .before .before .before .before in
-    ap (block (b2 .args .mv .target)) (cells-read (now (b2 .args .arena)) (b2 .args .mv .from) (b .before .label-at .ensures) (b .lengths-by .ensures))
+    let b2 = b .before .before .before in
+    ap (block (b2 .args .mv .target)) (cells-read (now (b2 .args .arena)) (b2 .args .mv .from) (b .lengths-at .ensures))
     ∙ other-early (b2 .args .mv) (now (b2 .args .arena)) (stageOf (b2 .args .mv .stage)) (sym (c .before .before .is-early .ensures) ∙ c .before .if1 .taken)
 
 is-late-requires : tie.Need-is-late-requires
@@ -36,15 +33,15 @@ is-late-requires c κs = search needs
 returns-2 : tie.Need-returns-2
 returns-2 c =
     let b = c .before .before .before in
-    let b2 = b .before .before .before .before .before in
-    ap (block (b2 .args .mv .from)) (cells-read (now (b2 .args .arena)) (b2 .args .mv .from) (b .before .before .label-at .ensures) (b .before .lengths-by .ensures))
+    let b2 = b .before .before .before .before in
+    ap (block (b2 .args .mv .from)) (cells-read (now (b2 .args .arena)) (b2 .args .mv .from) (b .before .lengths-at .ensures))
     ∙ other-late (b2 .args .mv) (now (b2 .args .arena)) (stageOf (b2 .args .mv .stage)) (sym (b .is-early .ensures)
     ∙ c .before .before .if1 .left) (sym (c .before .is-late .ensures) ∙ c .if2 .taken)
 
 returns-3 : tie.Need-returns-3
 returns-3 c =
     let b = c .before .before .before in
-    let b2 = b .before .before .before .before .before in
+    let b2 = b .before .before .before .before in
     other-idle (b2 .args .mv) (now (b2 .args .arena)) (stageOf (b2 .args .mv .stage)) (sym (b .is-early .ensures)
     ∙ c .before .before .if1 .left) (sym (c .before .is-late .ensures) ∙ c .if2 .left)
 
@@ -53,10 +50,9 @@ other-block-spec =
     tie.close
     (tie.spec
     cast-from
-    label-at-requires
-    lengths-by-requires
+    lengths-at-requires
     is-early-requires
-    cast-t7
+    cast-t6
     returns
     is-late-requires
     returns-2
