@@ -11,3 +11,4 @@ pub mod Readings
 pub mod Fresh
 pub mod Records
 pub mod Covers
+pub mod Headers

@@ -27,9 +27,11 @@ lay-block-requires c κs =
 returns-2 : tie.Need-returns-2
 returns-2 c =
     let b = c .before .before .before .before .before in
-    let n = cells-read (now (b .args .arena)) (b .args .c) (c .before .before .lengths-at .ensures) in
-    (c .lay-block .ensures .0 ∙ ap (free (now (b .args .seen)) (b .args .c)) n, c .lay-block .ensures .1
-    ∙ ap (lay (now (b .args .seen)) (b .args .c)) n)
+    let n = cells-read (now (b .args .arena)) (b .args .c) (c .before .before .lengths-at .ensures) in (
+      c .lay-block .ensures .0 ∙ ap (free (now (b .args .seen)) (b .args .c)) n,
+      c .lay-block .ensures .1
+          ∙ ap (lay (now (b .args .seen)) (b .args .c)) n,
+    )
 
 pub lay-record-spec : {M : Type 1} → statement M
 lay-record-spec = tie.close (tie.spec returns lengths-at-requires lay-block-requires returns-2)
