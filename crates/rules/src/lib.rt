@@ -7,10 +7,11 @@ ghost use lib.Dec.{eqb, leb};
 ghost use lib.ListN.{length, getD};
 ghost use Rattle.model.specs.Choice.{all, any};
 ghost use Rattle.model.specs.Records.{none, plain, flagged, label};
-ghost use Rattle.model.specs.Rows.{holdOf, wordOf, busy, hold};
+ghost use Rattle.model.specs.Rows.{holdOf, wordOf, busy};
 ghost use Rattle.model.specs.State.{stageOf};
-ghost use Rattle.model.specs.Rules.{recordRight, R1, replicaRight, earlyRight, lateRight, R2, headerRight, R4, numbersRight, R5, detachedRight, holdRight, accessRight, phaseRight, passedRight, rowRight, R7, flagUp, swapsRight};
-ghost use Rattle.rules.specs.Tests.{noNumbers};
+ghost use Rattle.model.specs.Rules.{recordRight, R1, replicaRight, earlyRight, lateRight, R2, headerRight, R4, numbersRight, R5, detachedRight, holdRight, passedRight, rowRight, R7, flagUp, swapsRight};
+ghost use Rattle.rules.specs.Tests.{noNumbers, accessAt, readyAt, phaseAt};
+ghost use Rattle.model.proofs.Readings.{owed};
 use blocks::entry_of;
 use blocks::is_early;
 use blocks::is_late;
@@ -22,6 +23,8 @@ use model::Row;
 const METERS: u32 = 256;
 
 const NONE: u32 = 65535;
+
+const HOLDS: u32 = 4;
 
 // "Word 1 is the label"
 fn label_at(arena: &[u32], c: u32) -> u32
@@ -245,4 +248,246 @@ fn counts_right(mv: Move, begun: u32, committed: u32, aborted: u32) -> bool
         return begun as u64 == ended + 1;
     }
     begun as u64 == ended
+}
+
+// "four holds, each empty (65535) or a cell"; a hold above 3 is empty.
+fn hold_of(holds: [u32; 4], h: u32) -> u32
+    ensures { λ r. ⌜ r ≡ getD holds h none ⌝ }
+{
+    if h < HOLDS {
+        holds[h as usize]
+    } else {
+        NONE
+    }
+}
+
+// "a present record": after R1 its label names the only entry that can be this cell.
+fn is_present(dir: &[u16; 256], arena: &[u32], c: u32) -> bool
+    requires { ⌜ (length (now dir) ≡ 256) × (R1 (now dir) (now arena) ≡ true) × (c ≡ 65535 → ⊥) ⌝ }
+    ensures { λ r. ⌜ r ≡ any (eqb c) (now (dir .entry)) ⌝ }
+{
+    let l = record::unpack_label(label_at(arena, c));
+    entry_of(dir, l.meter) == c
+}
+
+// R6 "A hold is empty, a present record, or the old block."
+fn hold_right(dir: &[u16; 256], mv: Move, arena: &[u32], h: u32) -> bool
+    requires { ⌜ (length (now dir) ≡ 256) × (R1 (now dir) (now arena) ≡ true) ⌝ }
+    ensures { λ r. ⌜ r ≡ holdRight (now (dir .entry)) mv h ⌝ }
+{
+    if h == NONE {
+        return true;
+    }
+    if is_present(dir, arena, h) {
+        return true;
+    }
+    if !is_late(mv.stage) {
+        return false;
+    }
+    h == mv.from as u32
+}
+
+fn holds_right(dir: &[u16; 256], mv: Move, arena: &[u32], holds: [u32; 4]) -> bool
+    requires { ⌜ (length (now dir) ≡ 256) × (R1 (now dir) (now arena) ≡ true) ⌝ }
+    ensures { λ r. ⌜ r ≡ all (holdRight (now (dir .entry)) mv) holds ⌝ }
+{
+    let mut i: u32 = 0;
+    while i < HOLDS {
+        if !hold_right(dir, mv, arena, hold_of(holds, i)) {
+            return false;
+        }
+        i += 1;
+    }
+    true
+}
+
+fn all_empty(holds: [u32; 4]) -> bool
+    ensures { λ r. ⌜ r ≡ all (eqb none) holds ⌝ }
+{
+    let mut i: u32 = 0;
+    while i < HOLDS {
+        if NONE != hold_of(holds, i) {
+            return false;
+        }
+        i += 1;
+    }
+    true
+}
+
+fn holds_cell(holds: [u32; 4], c: u32) -> bool
+    ensures { λ r. ⌜ r ≡ any (eqb c) holds ⌝ }
+{
+    let mut i: u32 = 0;
+    while i < HOLDS {
+        if c == hold_of(holds, i) {
+            return true;
+        }
+        i += 1;
+    }
+    false
+}
+
+fn is_busy(phase: Phase) -> bool
+    ensures { λ r. ⌜ r ≡ busy phase ⌝ }
+{
+    match phase {
+        Phase::Resting => false,
+        Phase::Ready(_, _) => true,
+        Phase::Waiting(_, _) => true,
+    }
+}
+
+// "Unattached rows are as after DETACH."
+fn detached_right(row: Row) -> bool
+    ensures { λ r. ⌜ r ≡ detachedRight row ⌝ }
+{
+    if row.attached {
+        return true;
+    }
+    if !row.passed {
+        return false;
+    }
+    let holds = row.holds;
+    let phase = row.phase;
+    if !all_empty(holds) {
+        return false;
+    }
+    !is_busy(phase)
+}
+
+fn hold_number(x: Access) -> u32
+    ensures { λ r. ⌜ r ≡ holdOf x ⌝ }
+{
+    match x {
+        Access::Read { hold, word: _ } => hold,
+        Access::Write {
+            hold,
+            word: _,
+            value: _,
+        } => hold,
+    }
+}
+
+fn word_number(x: Access) -> u32
+    ensures { λ r. ⌜ r ≡ wordOf x ⌝ }
+{
+    match x {
+        Access::Read { hold: _, word } => word,
+        Access::Write {
+            hold: _,
+            word,
+            value: _,
+        } => word,
+    }
+}
+
+// "A busy row's hold is filled, its word within the payload": h is the cell that the access's hold has.
+fn access_right(arena: &[u32], h: u32, word: u32) -> bool
+    ensures { λ r. ⌜ r ≡ accessAt (now (arena .entry)) h word ⌝ }
+{
+    if h == NONE {
+        return false;
+    }
+    let n = record::lengths_at(arena, h);
+    word < n.payload
+}
+
+// "ready is at its hold's cell or that header's target"
+fn ready_right(arena: &[u32], h: u32, c: u32) -> bool
+    ensures { λ r. ⌜ r ≡ readyAt (now (arena .entry)) h c ⌝ }
+{
+    if c == h {
+        return true;
+    }
+    let x = record::unpack(record::header_at(arena, h));
+    c == x.target
+}
+
+fn phase_right(arena: &[u32], holds: [u32; 4], phase: Phase) -> bool
+    ensures { λ r. ⌜ r ≡ phaseAt (now (arena .entry)) holds phase ⌝ }
+{
+    match phase {
+        Phase::Resting => true,
+        Phase::Ready(c, x) => {
+            let h = hold_of(holds, hold_number(x));
+            if !access_right(arena, h, word_number(x)) {
+                return false;
+            }
+            ready_right(arena, h, c)
+        }
+        Phase::Waiting(c, x) => {
+            let h = hold_of(holds, hold_number(x));
+            if !access_right(arena, h, word_number(x)) {
+                return false;
+            }
+            c == h
+        }
+    }
+}
+
+// "In the third barrier a passed row holds no old block."
+fn passed_right(mv: Move, row: Row) -> bool
+    ensures { λ r. ⌜ r ≡ passedRight mv row ⌝ }
+{
+    if !is_late(mv.stage) {
+        return true;
+    }
+    if !row.passed {
+        return true;
+    }
+    let holds = row.holds;
+    !holds_cell(holds, mv.from as u32)
+}
+
+fn row_right(dir: &[u16; 256], mv: Move, arena: &[u32], row: Row) -> bool
+    requires { ⌜ (length (now dir) ≡ 256) × (R1 (now dir) (now arena) ≡ true) ⌝ }
+    ensures { λ r. ⌜ r ≡ rowRight (now (dir .entry)) mv (now (arena .entry)) row ⌝ }
+{
+    let holds = row.holds;
+    let phase = row.phase;
+    if !detached_right(row) {
+        return false;
+    }
+    if !holds_right(dir, mv, arena, holds) {
+        return false;
+    }
+    if !phase_right(arena, holds, phase) {
+        return false;
+    }
+    passed_right(mv, row)
+}
+
+// "While a header is flagged": after R4 it can only be the moved record's.
+fn flag_up(mv: Move, arena: &[u32]) -> bool
+    ensures { λ r. ⌜ r ≡ flagUp mv (now (arena .entry)) ⌝ }
+{
+    if !is_early(mv.stage) {
+        return false;
+    }
+    let from = mv.from as u32;
+    is_flagged(record::header_at(arena, from), from)
+}
+
+// By how much a row's swaps must stay below begun.
+fn owed_by(flag: bool, from: u32, phase: Phase) -> u64
+    ensures { λ r. ⌜ (r ≡ owed flag from phase) × (r ≤ 2) ⌝ }
+{
+    match phase {
+        Phase::Resting => if flag { 1 } else { 0 },
+        Phase::Ready(_, _) => if flag { 1 } else { 0 },
+        Phase::Waiting(c, _) => if flag {
+            if c == from { 1 } else { 2 }
+        } else {
+            1
+        },
+    }
+}
+
+// R8 "Swaps ≤ begun. While a header is flagged, swaps < begun, and a row waiting on another record has swaps + 1 < begun. While none is
+// flagged, a waiting row has swaps < begun."
+fn swaps_right(flag: bool, from: u32, begun: u32, row: Row) -> bool
+    ensures { λ r. ⌜ r ≡ swapsRight flag from begun row ⌝ }
+{
+    let phase = row.phase;
+    (row.swaps as u64) + owed_by(flag, from, phase) <= begun as u64
 }
