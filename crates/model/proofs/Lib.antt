@@ -12,3 +12,4 @@ pub mod Fresh
 pub mod Records
 pub mod Covers
 pub mod Headers
+pub mod Holds
