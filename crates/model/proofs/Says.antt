@@ -205,6 +205,13 @@ module _ {A : Type 0} (f : A → Bool) (d : A) where
       says-same (says-as (all-at l) (at-all l) (says-all f (λ x. f x ≡ true) (λ x. says-is (f x)) l))
       (says-every (length l) (atIndex f l d) (λ i. f (getD l i d) ≡ true) (λ i. says-is (f (getD l i d))))
 
+  -- a walk over a list stops early, or has passed all of it
+  pub all-not : (l : List A) (i : ℕ) → i < length l → f (getD l i d) ≡ false → all f l ≡ false
+  all-not l i b e = all-every l ∙ every-not (atIndex f l d) (length l) i b e
+
+  pub all-done : (l : List A) (i : ℕ) → every i (atIndex f l d) ≡ true → i ≤ length l → length l ≤ i → all f l ≡ true
+  all-done l i e h k = all-every l ∙ every-done (atIndex f l d) (length l) i e h k
+
   -- a search finds an element, or has passed all of them
   pub any-found : (l : List A) (i : ℕ) → i < length l → f (getD l i d) ≡ true → any f l ≡ true
   any-found l i b e = says-any f (λ x. f x ≡ true) (λ x. says-is (f x)) d l .test (record { at = i; low = b; holds = e })
