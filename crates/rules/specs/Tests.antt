@@ -10,8 +10,14 @@ use Rattle.model.specs.declared.Phase.the-variants.{Resting, Ready, Waiting}
 use Rattle.model.specs.Choice.{_and_, _or_}
 use Rattle.model.specs.Records.{none, header, targetOf, payloadAt}
 use Rattle.model.specs.Rows.{holdOf, wordOf}
-use Rattle.model.specs.State.{idle}
+use Rattle.model.specs.State.{idle, State, state}
 use Rattle.model.specs.Rules.{isCell, numbersRight}
+use Rattle.table.specs.Words.{rowsOf}
+
+-- the state whose parts are lent one by one
+abbrev pub lent : List ℕ → List ℕ → Move → ℕ → ℕ → ℕ → List ℕ → List ℕ → State
+lent dir map v begun committed aborted arena table =
+    state (record { dir = dir; map = map; mv = v; begun = begun; committed = committed; aborted = aborted }) arena (rowsOf table)
 
 -- "all 0 when there is none": what R5 asks with no move in hand
 abbrev pub noNumbers : Move → Bool

@@ -8,14 +8,17 @@ ghost use lib.ListN.{length, getD};
 ghost use Rattle.model.specs.Choice.{all, any};
 ghost use Rattle.model.specs.Records.{none, plain, flagged, label};
 ghost use Rattle.model.specs.Rows.{holdOf, wordOf, busy};
-ghost use Rattle.model.specs.State.{stageOf};
-ghost use Rattle.model.specs.Rules.{recordRight, R1, replicaRight, earlyRight, lateRight, R2, headerRight, R4, numbersRight, R5, detachedRight, holdRight, passedRight, rowRight, R7, flagUp, swapsRight};
-ghost use Rattle.rules.specs.Tests.{noNumbers, accessAt, readyAt, phaseAt};
+ghost use Rattle.model.specs.State.{state};
+ghost use Rattle.model.specs.Rules.{recordRight, R1, replicaRight, earlyRight, lateRight, R2, headerRight, R4, R5, detachedRight, holdRight, passedRight, rowRight, R6, R7, flagUp, swapsRight, R8, firstBroken};
+ghost use Rattle.model.proofs.CellMap.{IsMap};
+ghost use Rattle.table.specs.Words.{rowsOf};
+ghost use Rattle.rules.specs.Tests.{lent, noNumbers, accessAt, readyAt, phaseAt};
 ghost use Rattle.model.proofs.Readings.{owed};
 use blocks::entry_of;
 use blocks::is_early;
 use blocks::is_late;
 use model::Access;
+use model::Control;
 use model::Move;
 use model::Phase;
 use model::Row;
@@ -25,6 +28,10 @@ const METERS: u32 = 256;
 const NONE: u32 = 65535;
 
 const HOLDS: u32 = 4;
+
+const ROWS: u32 = 8;
+
+const TABLE_WORDS: usize = 96;
 
 // "Word 1 is the label"
 fn label_at(arena: &[u32], c: u32) -> u32
@@ -254,11 +261,7 @@ fn counts_right(mv: Move, begun: u32, committed: u32, aborted: u32) -> bool
 fn hold_of(holds: [u32; 4], h: u32) -> u32
     ensures { λ r. ⌜ r ≡ getD holds h none ⌝ }
 {
-    if h < HOLDS {
-        holds[h as usize]
-    } else {
-        NONE
-    }
+    if h < HOLDS { holds[h as usize] } else { NONE }
 }
 
 // "a present record": after R1 its label names the only entry that can be this cell.
@@ -457,6 +460,24 @@ fn row_right(dir: &[u16; 256], mv: Move, arena: &[u32], row: Row) -> bool
     passed_right(mv, row)
 }
 
+// R6, on every row of the table.
+fn rows_right(dir: &[u16; 256], mv: Move, arena: &[u32], table: &[u32]) -> bool
+    requires { ⌜ (length (now dir) ≡ 256) × (R1 (now dir) (now arena) ≡ true) ⌝ }
+    ensures { λ r. ⌜ r ≡ R6 (now (dir .entry)) mv (now (arena .entry)) (rowsOf (now (table .entry))) ⌝ }
+{
+    if table.len() != TABLE_WORDS {
+        return true;
+    }
+    let mut i: u32 = 0;
+    while i < ROWS {
+        if !row_right(dir, mv, arena, table::checked_row_at(table, i)) {
+            return false;
+        }
+        i += 1;
+    }
+    true
+}
+
 // "While a header is flagged": after R4 it can only be the moved record's.
 fn flag_up(mv: Move, arena: &[u32]) -> bool
     ensures { λ r. ⌜ r ≡ flagUp mv (now (arena .entry)) ⌝ }
@@ -490,4 +511,81 @@ fn swaps_right(flag: bool, from: u32, begun: u32, row: Row) -> bool
 {
     let phase = row.phase;
     (row.swaps as u64) + owed_by(flag, from, phase) <= begun as u64
+}
+
+// R8, on every row of the table.
+fn all_swaps_right(mv: Move, begun: u32, arena: &[u32], table: &[u32]) -> bool
+    ensures { λ r. ⌜ r ≡ R8 mv begun (now (arena .entry)) (rowsOf (now (table .entry))) ⌝ }
+{
+    if table.len() != TABLE_WORDS {
+        return true;
+    }
+    let flag = flag_up(mv, arena);
+    let from = mv.from as u32;
+    let mut i: u32 = 0;
+    while i < ROWS {
+        if !swaps_right(flag, from, begun, table::checked_row_at(table, i)) {
+            return false;
+        }
+        i += 1;
+    }
+    true
+}
+
+// "0 or the number of the first broken rule"; directory and map are lent, for no rule copies them.
+fn broken<'a>(
+    dir: &'a [u16; 256],
+    map: &'a [u64; 16],
+    mv: Move,
+    begun: u32,
+    committed: u32,
+    aborted: u32,
+    arena: &[u32],
+    table: &[u32],
+) -> u32
+    requires { ⌜ (length (now dir) ≡ 256) × IsMap (now map) ⌝ }
+    ensures { λ r. ⌜ r ≡ firstBroken (lent (now (dir .entry)) (now (map .entry)) mv begun committed aborted (now (arena .entry)) (now (table .entry))) ⌝ }
+{
+    if !records_right(dir, arena) {
+        return 1;
+    }
+    if !move_right(dir, mv, arena) {
+        return 2;
+    }
+    if !blocks::cells_right(dir, map, mv, arena) {
+        return 3;
+    }
+    if !headers_right(dir, mv, arena) {
+        return 4;
+    }
+    if !numbers_right(mv, arena) {
+        return 5;
+    }
+    if !rows_right(dir, mv, arena, table) {
+        return 6;
+    }
+    if !counts_right(mv, begun, committed, aborted) {
+        return 7;
+    }
+    if !all_swaps_right(mv, begun, arena, table) {
+        return 8;
+    }
+    0
+}
+
+// "Audit's value, beside answer 30, is 0 or the number of the first broken rule."
+pub fn first_broken(control: Control, arena: &[u32], table: &[u32]) -> u32
+    ensures { λ r. ⌜ r ≡ firstBroken (state control (now (arena .entry)) (rowsOf (now (table .entry)))) ⌝ }
+{
+    let mv = control.mv;
+    broken(
+        &control.dir,
+        &control.map,
+        mv,
+        control.begun,
+        control.committed,
+        control.aborted,
+        arena,
+        table,
+    )
 }
