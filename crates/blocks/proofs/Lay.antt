@@ -17,10 +17,11 @@ use Rattle.model.specs.Rules.{covers}
 use Rattle.model.proofs.Choice.{order, same-or-not, and-parts, and-true}
 use Rattle.model.proofs.Bits.{bit-or, bit-and, bit-high, bits-ext}
 use Rattle.model.proofs.CellMap.{IsMap, used-at, set-map}
-use Rattle.model.proofs.Covers.{covers-is, covers-out}
-use Rattle.blocks.specs.Masks.{lowMask, highMask}
+use Rattle.model.proofs.Covers.{covers-out}
+use Rattle.cells.specs.Words.{lowMask, highMask}
 use Rattle.blocks.specs.Lay.{layWord, freeWord, layFirst, lay, free}
-use Rattle.blocks.proofs.Masks.{low-in, low-out, high-in, high-out, low-fits, high-fits}
+use Rattle.blocks.proofs.Covers.{covers-by}
+use Rattle.cells.proofs.Masks.{low-in, low-out, high-in, high-out, low-fits, high-fits}
 
 zero-bit : (j : ℕ) → bit 0 j ≡ 0
 zero-bit j = bit-high 0 0 j (omega arith) (omega arith)
@@ -28,17 +29,16 @@ zero-bit j = bit-high 0 0 j (omega arith) (omega arith)
 -- the masks as cells: of c's word, and of the next
 low-covers : (c n j : ℕ) → j < 64 → bit (lowMask (c % 64) n) j ≡ covers c n (64 * (c / 64) + j)
 low-covers c n j h =
-    covers-is c n (64 * (c / 64) + j) (λ p q. low-in (c % 64) n j h (omega arith) (omega arith))
+    covers-by c n (64 * (c / 64) + j) (λ p q. low-in (c % 64) n j h (omega arith) (omega arith))
     (λ o. low-out (c % 64) n j h (⊎-elim (λ p. inl (omega arith)) (λ p. inr (omega arith)) o))
 
 high-covers : (c n j : ℕ) → bit (highMask (c % 64) n) j ≡ covers c n (64 * (c / 64 + 1) + j)
 high-covers c n j =
-    covers-is c n (64 * (c / 64 + 1) + j) (λ p q. high-in (c % 64) n j (omega arith) (omega arith))
+    covers-by c n (64 * (c / 64 + 1) + j) (λ p q. high-in (c % 64) n j (omega arith) (omega arith))
     (λ o. high-out (c % 64) n j (omega arith) (⊎-elim (λ p. omega arith) (λ p. omega arith) o))
 
 covers-far : (c n x : ℕ) → n ≤ 64 → (x / 64 ≡ c / 64 → ⊥) → (x / 64 ≡ c / 64 + 1 → ⊥) → covers c n x ≡ 0
-covers-far c n x k ne me =
-    covers-out c n x (⊎-elim inl (λ p. ⊎-elim (λ q. absurd (near p q)) inr (order x (c + n))) (order x c))
+covers-far c n x k ne me = covers-out c n x near
   where
     near : c ≤ x → x < c + n → ⊥
     near p q = ⊎-elim (λ h. ne (omega arith)) (λ h. me (omega arith)) (order (x / 64) (c / 64 + 1))

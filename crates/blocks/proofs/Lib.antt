@@ -1,3 +1,3 @@
-pub mod Masks
+pub mod Covers
 pub mod Lay
 pub mod Seen

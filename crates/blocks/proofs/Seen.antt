@@ -3,7 +3,6 @@
 use mathlib.Core.Path.{_≡_, refl, sym, ap, _∙_, subst, subst⁻¹}
 use mathlib.Core.Bool.{Bool, true, false}
 use mathlib.Core.List.{List}
-use mathlib.Core.Logic.{inr}
 use Prim.Native.Nat.{ℕ, zero, suc, _+_, _<_, _≤_, min}
 use native.Mathlib.Numerals.{add-one}
 use native.Mathlib.Omega.{arith}
@@ -22,9 +21,10 @@ use Rattle.model.proofs.Choice.{clash, every-true}
 use Rattle.model.proofs.Says.{Says, says-as, says-same, says-every, says-eq, refute}
 use Rattle.model.proofs.Readings.{CellsRight, says-R3}
 use Rattle.model.proofs.CellMap.{IsMap, used-lt, fresh-map, fresh-free, map-ext}
-use Rattle.model.proofs.Covers.{covers-lt, covers-out, record-covers, total-more, total-part}
+use Rattle.model.proofs.Covers.{covers-le, covers-out}
 use Rattle.blocks.specs.declared.Block.{Block}
 use Rattle.blocks.specs.Lay.{lay, free, sameWord, block, otherBlock}
+use Rattle.blocks.proofs.Covers.{record-covers, total-more, total-part}
 use Rattle.blocks.proofs.Lay.{lay-map, lay-used, free-tells, is-free}
 
 -- a record's cells fit a mask
@@ -65,7 +65,7 @@ module _ (v : Move) (arena : List ℕ) where
 
   -- it covers what the rule says, and fits a mask
   other-covers : (g : Stage) (x : ℕ) → otherCovers g v arena x ≡ covers (otherBlock g v arena .start) (otherBlock g v arena .cells) x
-  other-covers idle x = sym (covers-out 0 0 x (inr (omega arith)))
+  other-covers idle x = sym (covers-out 0 0 x (λ p q. omega arith))
   other-covers firstBarrier x = refl
   other-covers copying x = refl
   other-covers secondBarrier x = refl
@@ -89,7 +89,7 @@ seen-none dir arena = record { map = fresh-map; at = λ x h. fresh-free x }
 -- a block that meets none is added at each cell
 laid-at : (seen : List ℕ) (c n x : ℕ) → IsMap seen → n < 64 → x < 1024 → free seen c n ≡ true
     → used (lay seen c n) x ≡ used seen x + covers c n x
-laid-at seen c n x h k hx f = lay-used seen c n k x h hx ∙ omega (arith, free-tells seen c n k f x, used-lt seen x, covers-lt c n x)
+laid-at seen c n x h k hx f = lay-used seen c n k x h hx ∙ omega (arith, free-tells seen c n k f x, used-lt seen x, covers-le c n x)
 
 -- a block that does not fit beside those seen breaks the rule
 met : (seen map : List ℕ) (c n : ℕ) {over : ℕ → ℕ} → IsMap seen → n < 64 → free seen c n ≡ false

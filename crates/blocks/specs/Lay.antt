@@ -10,7 +10,7 @@ use Rattle.model.specs.Choice.{_and_}
 use Rattle.model.specs.Records.{cellsAt}
 use Rattle.model.specs.State.{Stage, idle, firstBarrier, copying, secondBarrier, thirdBarrier}
 use Rattle.blocks.specs.declared.Block.{Block}
-use Rattle.blocks.specs.Masks.{lowMask, highMask}
+use Rattle.cells.specs.Words.{lowMask, highMask}
 
 -- a mask laid into word w, and that it met no cell there
 unfoldable pub layWord : List ℕ → ℕ → ℕ → List ℕ

@@ -8,7 +8,6 @@ ghost use Rattle.model.specs.State.{stageOf, entry};
 ghost use Rattle.model.specs.Rules.{early, late, R3};
 ghost use Rattle.model.specs.Choice.{every};
 ghost use Rattle.model.proofs.CellMap.{IsMap};
-ghost use Rattle.blocks.specs.Masks.{lowMask, highMask};
 ghost use Rattle.blocks.specs.Lay.{layWord, freeWord, lay, free, sameWord, otherBlock};
 
 const CELLS: u32 = 1024;
@@ -57,24 +56,6 @@ pub fn is_late(stage: u32) -> bool
     stage == 4
 }
 
-// n ones from bit k on: those of the word itself.
-fn low_mask(k: u32, n: u32) -> u64
-    requires { ⌜ (k < 64) × (n < 64) ⌝ }
-    ensures { λ r. ⌜ r ≡ lowMask k n ⌝ }
-{
-    let one: u64 = 1;
-    ((one << n) - 1) << k
-}
-
-// Those that run over into the next word.
-fn high_mask(k: u32, n: u32) -> u64
-    requires { ⌜ (k < 64) × (n < 64) ⌝ }
-    ensures { λ r. ⌜ r ≡ highMask k n ⌝ }
-{
-    let one: u64 = 1;
-    (((one << n) - 1) >> 1) >> (63 - k)
-}
-
 // A mask is laid into word w; whether it met no cell that was there.
 fn lay_word(seen: &mut [u64; 16], w: u32, mask: u64) -> bool
     requires { ⌜ length (now seen) ≡ 16 ⌝ }
@@ -99,8 +80,8 @@ fn lay_block(seen: &mut [u64; 16], c: u32, n: u32) -> bool
     if CELLS <= c {
         return true;
     }
-    let low = lay_word(seen, c / 64, low_mask(c % 64, n));
-    let high = lay_word(seen, c / 64 + 1, high_mask(c % 64, n));
+    let low = lay_word(seen, c / 64, cells::low_mask(c % 64, n));
+    let high = lay_word(seen, c / 64 + 1, cells::high_mask(c % 64, n));
     low && high
 }
 

@@ -7,7 +7,7 @@ use native.Mathlib.Omega.{arith}
 use lib.ListN.{getD, drop, replicate, getD-replicate, List·getD-append, List·getD-eq-default}
 use lib.Seq.{set-getD}
 use borrow.Author.Tests.{lt-ltb}
-use Rattle.model.specs.Choice.{_and_, all}
+use Rattle.model.specs.Choice.{all}
 use Rattle.model.proofs.Choice.{and-parts, clash}
 use Rattle.model.specs.declared.Row.{Row}
 use Rattle.model.specs.declared.Stepped.{Stepped}
@@ -18,8 +18,8 @@ use Rattle.model.specs.State.{State, state, entry}
 use Rattle.model.specs.Answers.{outcome}
 use Rattle.model.specs.ClientSteps.{attach, detach, openHold, dropHold, loadHeader, go, rest}
 use Rattle.model.specs.Refusals.{Refusal, refuse}
-use Rattle.model.specs.Steps.{Step, Name, ADMIT, RETIRE, BEGIN, ADVANCE, ATTACH, DETACH, OPEN, DROP, READ, WRITE, GO, REST, UNKNOWN, NOBODY}
-use Rattle.model.specs.Steps.{clientCodes, named, ownRow, refusals, seated, effect, refused, act}
+use Rattle.model.specs.Steps.{Step, Name, ADMIT, RETIRE, BEGIN, ADVANCE, ATTACH, DETACH, OPEN, DROP, READ, WRITE, GO, REST}
+use Rattle.model.specs.Steps.{UNKNOWN, NOBODY, clientCodes, named, ownRow, refusals, seated, effect, refused, act}
 use Rattle.clients.specs.Turns.{turn, refusedTurn, clientTurn}
 
 -- a refused turn leaves the state as it was
@@ -90,7 +90,8 @@ by-name ADVANCE s t e = clash false e refl
 by-name NOBODY s t e = clash false e refl
 
 -- each code of a client, unknown codes too
-pub act-client : (s : State) (t : Step) → 0 < t .who → t .who < 9 → act s t ≡ seated s t (turnOf (getD clientCodes (t .code) UNKNOWN) s t)
+pub act-client : (s : State) (t : Step) → 0 < t .who → t .who < 9
+    → act s t ≡ seated s t (turnOf (getD clientCodes (t .code) UNKNOWN) s t)
 unfolding act
 act-client s t p q =
     rw (client-named (t .who) (t .code) p q)

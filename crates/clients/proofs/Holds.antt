@@ -2,9 +2,9 @@
 use mathlib.Core.Path.{_≡_, refl, sym, ap, _∙_}
 use mathlib.Core.Bool.{Bool, true, false}
 use mathlib.Core.List.{List, [], _∷_}
-use Prim.Native.Nat.{ℕ, zero, suc}
+use Prim.Native.Nat.{ℕ, zero, suc, _<_}
 use native.Mathlib.Omega.{arith}
-use lib.Dec.{eqb}
+use lib.Dec.{lit<, eqb}
 use lib.ListN.{length, getD}
 use borrow.Author.Tests.{ne-eqb}
 use Rattle.model.specs.Choice.{pick}
@@ -26,7 +26,9 @@ of-four a b c d n zero = refl
 of-four a b c d n (suc zero) = refl
 of-four a b c d n (suc (suc zero)) = refl
 of-four a b c d n (suc (suc (suc zero))) = refl
-of-four a b c d n (suc (suc (suc (suc h)))) = simp (ne-eqb (suc (suc (suc (suc h)))) 0 (λ e. omega arith), ne-eqb (suc (suc (suc (suc h)))) 1 (λ e. omega arith), ne-eqb (suc (suc (suc (suc h)))) 2 (λ e. omega arith), ne-eqb (suc (suc (suc (suc h)))) 3 (λ e. omega arith))
+of-four a b c d n (suc (suc (suc (suc h)))) =
+    let not : (k : ℕ) → k < 4 → eqb (suc (suc (suc (suc h)))) k ≡ false = λ k p. ne-eqb (suc (suc (suc (suc h)))) k (λ e. omega arith) in
+    simp (not 0 (lit< tt), not 1 (lit< tt), not 2 (lit< tt), not 3 (lit< tt))
 
 pub hold-picked : (l : List ℕ) (h n : ℕ) → length l ≡ 4
     → pick (eqb h 0) (getD l 0 0) (pick (eqb h 1) (getD l 1 0) (pick (eqb h 2) (getD l 2 0) (pick (eqb h 3) (getD l 3 0) n)))

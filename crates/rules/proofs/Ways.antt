@@ -16,7 +16,7 @@ use Rattle.model.specs.State.{stageOf, entry, idle}
 use Rattle.model.specs.Rules.{isEarly, isLate, replicaRight, earlyRight, lateRight, R2, numbersRight, holdRight, accessRight, phaseRight, swapsRight}
 use Rattle.model.proofs.Choice.{and-yes}
 use Rattle.model.proofs.Says.{says-le, says-same}
-use Rattle.model.proofs.Stages.{early-not-late}
+use Rattle.model.proofs.StageNumbers.{early-not-late}
 use Rattle.model.proofs.Readings.{owed, says-swaps}
 use Rattle.rules.specs.Tests.{accessAt, readyAt, phaseAt}
 

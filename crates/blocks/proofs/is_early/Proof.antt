@@ -1,5 +1,5 @@
 -- `blocks::is_early` meets its contract: stages 1 to 3. Assumes nothing.
-use Rattle.model.proofs.Stages.{early-number}
+use Rattle.model.proofs.StageNumbers.{early-number}
 use Rattle.blocks.proofs.is_early.Statement.{statement}
 use Rattle.blocks.proofs.is_early.Tie as tie
 

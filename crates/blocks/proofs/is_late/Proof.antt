@@ -1,5 +1,5 @@
 -- `blocks::is_late` meets its contract: stage 4. Assumes nothing.
-use Rattle.model.proofs.Stages.{late-number}
+use Rattle.model.proofs.StageNumbers.{late-number}
 use Rattle.blocks.proofs.is_late.Statement.{statement}
 use Rattle.blocks.proofs.is_late.Tie as tie
 

@@ -14,7 +14,9 @@ is-busy-requires : tie.Need-is-busy-requires
 is-busy-requires c κs = search needs
 
 returns-3 : tie.Need-returns-3
-returns-3 c = simp (le-ltb _ _ (c .before .before .before .before .if1 .left), c .before .before .if2 .left, rw (c .before .is-busy .ensures) at (c .if3 .taken))
+returns-3 c =
+    let b = c .before .before in
+    simp (le-ltb _ _ (b .before .before .if1 .left), b .if2 .left, rw (c .before .is-busy .ensures) at (c .if3 .taken))
 
 hold-of-requires : tie.Need-hold-of-requires
 hold-of-requires c κs = search needs
@@ -22,7 +24,8 @@ hold-of-requires c κs = search needs
 returns-4 : tie.Need-returns-4
 returns-4 c =
     let b = c .before .before .before in
-    simp (le-ltb _ _ (b .before .before .before .before .if1 .left), b .before .before .if2 .left, rw (b .before .is-busy .ensures) at (b .if3 .left))
+    let a = b .before .before in
+    simp (le-ltb _ _ (a .before .before .if1 .left), a .if2 .left, rw (b .before .is-busy .ensures) at (b .if3 .left))
     (simp (eq-eqb _ _ (rw (c .before .hold-of .ensures) at (c .if4 .taken))))
 
 lengths-at-requires : tie.Need-lengths-at-requires
@@ -32,15 +35,23 @@ returns-5 : tie.Need-returns-5
 returns-5 c =
     let h = c .before .before .before .before in
     let b = h .before .before in
-    simp (le-ltb _ _ (b .before .before .before .before .if1 .left), b .before .before .if2 .left, rw (b .before .is-busy .ensures) at (b .if3 .left))
-    (simp (ne-eqb _ _ (rw (h .hold-of .ensures) at (c .before .before .before .if4 .left)), le-leb _ _ (rw (c .before .before .lengths-at .ensures, h .hold-of .ensures) at (c .if5 .taken))))
+    let a = b .before .before in
+    simp (le-ltb _ _ (a .before .before .if1 .left), a .if2 .left, rw (b .before .is-busy .ensures) at (b .if3 .left))
+    (simp (
+      ne-eqb _ _ (rw (h .hold-of .ensures) at (c .before .before .before .if4 .left)),
+      le-leb _ _ (rw (c .before .before .lengths-at .ensures, h .hold-of .ensures) at (c .if5 .taken)),
+    ))
 
 returns-6 : tie.Need-returns-6
 returns-6 c =
     let h = c .before .before .before .before in
     let b = h .before .before in
-    simp (le-ltb _ _ (b .before .before .before .before .if1 .left), b .before .before .if2 .left, rw (b .before .is-busy .ensures) at (b .if3 .left))
-    (simp (ne-eqb _ _ (rw (h .hold-of .ensures) at (c .before .before .before .if4 .left)), lt-leb _ _ (rw (c .before .before .lengths-at .ensures, h .hold-of .ensures) at (c .if5 .left))))
+    let a = b .before .before in
+    simp (le-ltb _ _ (a .before .before .if1 .left), a .if2 .left, rw (b .before .is-busy .ensures) at (b .if3 .left))
+    (simp (
+      ne-eqb _ _ (rw (h .hold-of .ensures) at (c .before .before .before .if4 .left)),
+      lt-leb _ _ (rw (c .before .before .lengths-at .ensures, h .hold-of .ensures) at (c .if5 .left)),
+    ))
 
 pub access-refusal-spec : {M : Type 1} → statement M
 access-refusal-spec =

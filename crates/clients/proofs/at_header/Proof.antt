@@ -15,11 +15,15 @@ with-phase-requires-2 c κs = search needs
 
 returns : tie.Need-returns
 unfolding atHeader
-returns c = simp (rw (c .before .before .unpack .ensures) at (c .before .if1 .taken), c .with-phase .ensures)
+returns c =
+    let u = c .before .before .unpack .ensures in
+    simp (rw u at (c .before .if1 .taken), c .with-phase .ensures)
 
 returns-2 : tie.Need-returns-2
 unfolding atHeader
-returns-2 c = simp (rw (c .before .before .unpack .ensures) at (c .before .if1 .left), c .with-phase2 .ensures, c .before .before .unpack .ensures)
+returns-2 c =
+    let u = c .before .before .unpack .ensures in
+    simp (rw u at (c .before .if1 .left), c .with-phase2 .ensures, u)
 
 pub at-header-spec : {M : Type 1} → statement M
 at-header-spec =

@@ -24,7 +24,9 @@ choose-requires-4 c κs = search needs
 returns : tie.Need-returns
 returns c =
     let b = c .before .before .before in
-    simp (c .choose4 .ensures, c .before .choose3 .ensures, b .choose2 .ensures, b .before .is-busy .ensures, b .before .before .choose .ensures, b .before .before .before .hold-of .ensures)
+    let a = b .before .before in
+    simp (c .choose4 .ensures, c .before .choose3 .ensures, b .choose2 .ensures)
+    (simp (b .before .is-busy .ensures, a .choose .ensures, a .before .hold-of .ensures))
 
 pub drop-refusal-spec : {M : Type 1} → statement M
 drop-refusal-spec =

@@ -25,7 +25,9 @@ payload-place-requires-2 : tie.Need-payload-place-requires-2
 payload-place-requires-2 c κs = search needs
 
 returns : tie.Need-returns
-returns c = simp (c .before .before .before .before .x .given .1, c .load .ensures, c .before .payload-place .ensures, c .before .before .with-phase .ensures)
+returns c =
+    let b = c .before .before in
+    simp (b .before .before .x .given .1, c .load .ensures, c .before .payload-place .ensures, b .with-phase .ensures)
 
 returns-2 : tie.Need-returns-2
 returns-2 c = simp (c .before .before .before .x2 .given .1, c .payload-place2 .ensures, c .before .with-phase2 .ensures)

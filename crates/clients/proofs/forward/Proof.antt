@@ -2,12 +2,13 @@
 use borrow.Author.Needs.{needs}
 use borrow.Author.Tests.{eq-eqb, ne-eqb}
 use Rattle.model.specs.ClientSteps.{forwarded}
+use Rattle.model.specs.Records.{none}
 use Rattle.clients.proofs.forward.Statement.{statement}
 use Rattle.clients.proofs.forward.Tie as tie
 
 returns : tie.Need-returns
 unfolding forwarded
-returns c = simp (eq-eqb _ _ (c .if1 .taken))
+returns c = simp (eq-eqb (c .before .before .args .hold) none (c .if1 .taken))
 
 header-at-requires : tie.Need-header-at-requires
 header-at-requires c κs = search needs
@@ -17,7 +18,9 @@ unpack-requires c κs = search needs
 
 returns-2 : tie.Need-returns-2
 unfolding forwarded
-returns-2 c = simp (ne-eqb _ _ (c .before .before .if1 .left), c .unpack .ensures, c .before .header-at .ensures)
+returns-2 c =
+    let b = c .before .before in
+    simp (ne-eqb (b .before .before .args .hold) none (b .if1 .left), c .unpack .ensures, c .before .header-at .ensures)
 
 pub forward-spec : {M : Type 1} → statement M
 forward-spec = tie.close (tie.spec returns header-at-requires unpack-requires returns-2)

@@ -34,8 +34,9 @@ forward-requires-4 c κs = search needs
 
 returns : tie.Need-returns
 returns c =
-    let s = c .before .before .before .before .before in
-    simp (c .forward4 .ensures, c .before .forward3 .ensures, c .before .before .forward2 .ensures, c .before .before .before .forward .ensures)
+    let b = c .before .before in
+    let s = b .before .before .before in
+    simp (c .forward4 .ensures, c .before .forward3 .ensures, b .forward2 .ensures, b .before .forward .ensures)
     (sym (ap (map (forwarded (now (s .args .arena)))) (four-holds (s .args .t2) (s .good .1 .0 .1 .0 .1))))
 
 pub forward-all-spec : {M : Type 1} → statement M

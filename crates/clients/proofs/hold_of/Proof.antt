@@ -31,8 +31,9 @@ choose-requires-4 c κs = search needs
 
 returns : tie.Need-returns
 returns c =
-    let s = c .before .before .before .before in
-    simp (c .choose4 .ensures, c .before .choose3 .ensures, c .before .before .choose2 .ensures, c .before .before .before .choose .ensures)
+    let b = c .before .before in
+    let s = b .before .before in
+    simp (c .choose4 .ensures, c .before .choose3 .ensures, b .choose2 .ensures, b .before .choose .ensures)
     (hold-picked (s .args .t1) (s .args .hold) none (s .good .0 .1 .0 .1))
 
 pub hold-of-spec : {M : Type 1} → statement M

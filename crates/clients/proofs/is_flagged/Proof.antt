@@ -10,8 +10,9 @@ unpack-requires c κs = search needs
 
 returns : tie.Need-returns
 returns c =
+    let u = c .before .before .unpack .ensures in
     let s = c .before .before .before in
-    simp (c .before .before .unpack .ensures) (flag-up (s .args .h) (s .args .cell) (rw (c .before .before .unpack .ensures) at (c .before .if1 .taken)))
+    simp u (flag-up (s .args .h) (s .args .cell) (rw u at (c .before .if1 .taken)))
 
 returns-2 : tie.Need-returns-2
 returns-2 c =

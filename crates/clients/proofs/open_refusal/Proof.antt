@@ -24,7 +24,9 @@ choose-requires-5 c κs = search needs
 returns : tie.Need-returns
 returns c =
     let b = c .before .before .before .before in
-    simp (c .choose5 .ensures, c .before .choose4 .ensures, c .before .before .choose3 .ensures, b .choose2 .ensures, b .before .is-busy .ensures, b .before .before .choose .ensures)
+    let a = b .before .before in
+    simp (c .choose5 .ensures, c .before .choose4 .ensures, c .before .before .choose3 .ensures)
+    (simp (b .choose2 .ensures, b .before .is-busy .ensures, a .choose .ensures))
 
 pub open-refusal-spec : {M : Type 1} → statement M
 open-refusal-spec =

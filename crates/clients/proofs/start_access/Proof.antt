@@ -14,7 +14,8 @@ refused-requires c κs = search needs
 
 returns : tie.Need-returns
 returns c =
-    simp (hold-of-access, word-of-access) (refused-by _ _ _ (c .before .before .access-refusal .ensures) (c .before .if1 .taken) (c .refused .ensures))
+    simp (hold-of-access, word-of-access)
+    (refused-by _ _ _ (c .before .before .access-refusal .ensures) (c .before .if1 .taken) (c .refused .ensures))
 
 hold-of-requires : tie.Need-hold-of-requires
 hold-of-requires c κs = search needs
@@ -30,10 +31,11 @@ at-header-requires c κs = search needs
 
 returns-2 : tie.Need-returns-2
 returns-2 c =
-    let b = c .before .before .before .before .before in
+    let a = c .before .before in
+    let b = a .before .before .before in
     simp (hold-of-access, word-of-access)
     (done-by _ _ _ refl (b .before .access-refusal .ensures) (b .if1 .left)
-    (simp (c .at-header .ensures, c .before .access-of .ensures, c .before .before .header-at .ensures, c .before .before .before .hold-of .ensures)))
+    (simp (c .at-header .ensures, c .before .access-of .ensures, a .header-at .ensures, a .before .hold-of .ensures)))
 
 pub start-access-spec : {M : Type 1} → statement M
 start-access-spec =

@@ -35,15 +35,18 @@ returns : tie.Need-returns
 unfolding swap
 returns c =
     let h = c .before .before .before .before .before in
+    let cell = h .before .before .args .cell in
     let e = rw (c .before .before .before .before .is-flagged .ensures) at (c .before .before .before .if1 .taken) in
-    let p : packed (h .before .before .args .cell) false ≡ plain (h .before .before .args .cell) = plain-fits (h .header-at .result) _ (h .header-at .ok) (eqb-true _ _ e) in
+    let p : packed cell false ≡ plain cell = plain-fits (h .header-at .result) cell (h .header-at .ok) (eqb-true _ _ e) in
     simp (rw (h .header-at .ensures) at e, c .pack .ensures, p, c .before .place .ensures, c .before .before .with-swap .ensures)
 
 returns-2 : tie.Need-returns-2
 unfolding swap
 returns-2 c =
-    let e = rw (c .before .before .before .is-flagged .ensures, c .before .before .before .before .header-at .ensures) at (c .before .before .if1 .left) in
-    simp (e, c .with-swap2 .ensures, c .before .unpack .ensures, c .before .before .before .before .header-at .ensures)
+    let b = c .before .before .before in
+    let h = b .before .header-at .ensures in
+    let e = rw (b .is-flagged .ensures, h) at (c .before .before .if1 .left) in
+    simp (e, c .with-swap2 .ensures, c .before .unpack .ensures, h)
 
 pub swap-spec : {M : Type 1} → statement M
 swap-spec =

@@ -1,6 +1,6 @@
 -- `rules::numbers_right` meets its contract, stage by stage. Assumes nothing.
 use borrow.Author.Needs.{needs}
-use Rattle.model.proofs.Stages.{stage-none}
+use Rattle.model.proofs.StageNumbers.{stage-none}
 use Rattle.model.specs.Rules.{R5}
 use Rattle.rules.proofs.numbers_right.Statement.{statement}
 use Rattle.rules.proofs.numbers_right.Tie as tie
