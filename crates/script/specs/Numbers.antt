@@ -34,9 +34,9 @@ numberOf at first ds = pick (proper first (length ds) (valueFrom 0 ds)) (Number 
 unfoldable pub numberAt : List ℕ → ℕ → Found
 numberAt s at = numberOf at (getD s at 0) (digits (drop at s))
 
--- what a scan finds: all that is above 4294967295 as 4294967296
+-- what a scan finds from a place on, behind digits that write v: all that is above 4294967295 as 4294967296
 unfoldable pub capped : ℕ → ℕ
 capped v = pick (ltb 4294967295 v) 4294967296 v
 
-unfoldable pub scanned : List ℕ → ℕ → Scanned
-scanned s at = record { value = capped (valueFrom 0 (digits (drop at s))); end = at + length (digits (drop at s)) }
+unfoldable pub scanned : List ℕ → ℕ → ℕ → Scanned
+scanned s v at = record { value = capped (valueFrom v (digits (drop at s))); end = at + length (digits (drop at s)) }

@@ -8,8 +8,8 @@ use Rattle.model.specs.Choice.{pick}
 
 -- "Decimal numbers .. no needless leading zero", in at most k + 1 digits
 unfoldable pub decimalIn : ℕ → ℕ → List ℕ
-decimalIn zero n = n + 48 ∷ []
-decimalIn (suc k) n = elim (ltb n 10) [ true ↦ n + 48 ∷ [] | false ↦ decimalIn k (n / 10) ++ (n % 10 + 48 ∷ []) ]
+decimalIn zero n = (n + 48) ∷ []
+decimalIn (suc k) n = elim (ltb n 10) [ true ↦ (n + 48) ∷ [] | false ↦ decimalIn k (n / 10) ++ ((n % 10 + 48) ∷ []) ]
 
 unfoldable pub decimal : ℕ → List ℕ
 decimal n = decimalIn n n

@@ -69,7 +69,7 @@ fn more(v: u64, b: u8) -> u64
 
 // The digits from a place on.
 fn scan(s: &[u8], at: usize) -> Scanned
-    ensures { λ r. ⌜ r ≡ scanned (now (s .entry)) at ⌝ }
+    ensures { λ r. ⌜ r ≡ scanned (now (s .entry)) 0 at ⌝ }
 {
     let mut v: u64 = 0;
     let mut i = at;

@@ -1,0 +1,59 @@
+-- Laws of fields, lines and sections: what each test of the code makes of them.
+use mathlib.Core.Path.{_≡_, refl, sym, ap, _∙_}
+use mathlib.Core.Bool.{Bool, true, false}
+use mathlib.Core.List.{List}
+use Prim.Native.Nat.{ℕ, zero, suc, _+_, _-_, _≤_, _<_}
+use native.Mathlib.Omega.{arith}
+use borrow.Author.Tests.{eq-eqb, ne-eqb}
+use lib.ListN.{length, getD}
+use Rattle.script.specs.declared.Found.the-variants.{Number, Nothing}
+use Rattle.script.specs.declared.Reached.the-variants.{Wrong, At}
+use Rattle.script.specs.Numbers.{numberAt}
+use Rattle.script.specs.Lines.{fieldAt, lineAt, linesAt}
+
+module _ (s : List ℕ) (mark at : ℕ) where
+  pub field-missing : numberAt s at ≡ Nothing → fieldAt s mark at ≡ Nothing
+  unfolding fieldAt
+  field-missing e = simp e
+
+  pub field-marked : (v next : ℕ) → numberAt s at ≡ Number v next → getD s next 0 ≡ mark → fieldAt s mark at ≡ Number v (next + 1)
+  unfolding fieldAt
+  field-marked v next e m = simp (e, eq-eqb (getD s next 0) mark m)
+
+  pub field-unmarked : (v next : ℕ) → numberAt s at ≡ Number v next → (getD s next 0 ≡ mark → ⊥) → fieldAt s mark at ≡ Nothing
+  unfolding fieldAt
+  field-unmarked v next e m = simp (e, ne-eqb (getD s next 0) mark m)
+
+less-one : (n : ℕ) → suc n - 1 ≡ n
+less-one n = omega arith
+
+module _ (s : List ℕ) (at : ℕ) where
+  pub line-ends : lineAt s 0 at ≡ fieldAt s 10 at
+  unfolding lineAt
+  line-ends = refl
+
+  pub line-goes-on : (left v next : ℕ) → 0 < left → fieldAt s 32 at ≡ Number v next → lineAt s left at ≡ lineAt s (left - 1) next
+  unfolding lineAt
+  line-goes-on zero v next h e = absurd (omega arith)
+  line-goes-on (suc n) v next h e = rw (less-one n, e, lineAt)
+
+  pub line-breaks : (left : ℕ) → 0 < left → fieldAt s 32 at ≡ Nothing → lineAt s left at ≡ Nothing
+  unfolding lineAt
+  line-breaks zero h e = absurd (omega arith)
+  line-breaks (suc n) h e = rw (e, lineAt)
+
+module _ (s : List ℕ) (spaces first at : ℕ) where
+  pub lines-end : linesAt s 0 spaces first at ≡ At at
+  unfolding linesAt
+  lines-end = refl
+
+  pub lines-go-on : (left v next : ℕ) → 0 < left → lineAt s spaces at ≡ Number v next
+      → linesAt s left spaces first at ≡ linesAt s (left - 1) spaces (first + 1) next
+  unfolding linesAt
+  lines-go-on zero v next h e = absurd (omega arith)
+  lines-go-on (suc n) v next h e = rw (less-one n, e, linesAt)
+
+  pub lines-break : (left : ℕ) → 0 < left → lineAt s spaces at ≡ Nothing → linesAt s left spaces first at ≡ Wrong first
+  unfolding linesAt
+  lines-break zero h e = absurd (omega arith)
+  lines-break (suc n) h e = rw (e, linesAt)
