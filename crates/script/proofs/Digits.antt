@@ -3,12 +3,12 @@ use mathlib.Core.Path.{_≡_, refl, sym, ap, _∙_}
 use mathlib.Core.Bool.{Bool, true, false, not}
 use mathlib.Core.Logic.{⊎-elim}
 use mathlib.Core.List.{List, [], _∷_}
-use Prim.Native.Nat.{ℕ, suc, _+_, _-_, _*_, _≤_, _<_}
+use Prim.Native.Nat.{ℕ, zero, suc, _+_, _-_, _*_, _≤_, _<_}
 use native.Mathlib.Numerals.{add-one}
 use native.Mathlib.Omega.{arith}
 use borrow.Author.Tests.{ltb-true, ltb-false, leb-true, lt-ltb, le-ltb}
 use lib.Dec.{eqb, ltb, leb}
-use lib.ListN.{length, getD, drop, drop-of-length-le, List·getD-eq-default}
+use lib.ListN.{length, getD, drop, drop-of-length-le, length-drop, List·getD-eq-default}
 use lib.Seq.{drop-cons}
 use Rattle.model.specs.Choice.{pick, _and_}
 use Rattle.model.proofs.Choice.{clash, and-parts, order}
@@ -140,3 +140,29 @@ scan-forward s v at = omega arith
 pub proper-small : (first count v : ℕ) → proper first count v ≡ true → v ≤ 4294967295
 proper-small first count v e =
     ⊎-elim (λ p. clash (proper first count v) e (not-proper first count v p)) (λ q. q) (order 4294967295 v)
+
+-- a number ends within the text
+few-by : (b : ℕ) (t : List ℕ) (x : Bool) → isDigit b ≡ x → length (digits t) ≤ length t → length (digits (b ∷ t)) ≤ length (b ∷ t)
+few-by b t true e h = rw (digits-front b t e) (omega arith)
+few-by b t false e h = rw (digits-stop b t e) (omega arith)
+
+few-digits : (t : List ℕ) → length (digits t) ≤ length t
+few-digits [] = rw digits-empty (omega arith)
+few-digits (b ∷ t) = few-by b t (isDigit b) refl (few-digits t)
+
+picked : (x : Bool) (v n w m : ℕ) → pick x (Number v n) Nothing ≡ Number w m → (x ≡ true) × (n ≡ m)
+picked true v n w m e = (refl, cc)
+picked false v n w m e = let z : _≡_ {A = ℕ} 0 1 = cc in absurd (omega arith)
+
+-- digits that are proper are some
+some-digits : (first count v : ℕ) → proper first count v ≡ true → 0 < count
+unfolding proper
+some-digits first zero v e = clash false e refl
+some-digits first (suc n) v e = omega arith
+
+pub number-within : (s : List ℕ) (at v next : ℕ) → numberAt s at ≡ Number v next → next ≤ length s
+unfolding numberAt
+number-within s at v next e =
+    let ds = digits (drop at s) in
+    let p = picked (proper (getD s at 0) (length ds) (valueFrom 0 ds)) (valueFrom 0 ds) (at + length ds) v next e in
+    omega (arith, p .1, some-digits (getD s at 0) (length ds) (valueFrom 0 ds) (p .0), few-digits (drop at s), length-drop at s)

@@ -1,15 +1,20 @@
 -- Laws of fields, lines and sections: what each test of the code makes of them.
 use mathlib.Core.Path.{_≡_, refl, sym, ap, _∙_}
 use mathlib.Core.Bool.{Bool, true, false}
-use mathlib.Core.List.{List}
+use mathlib.Core.List.{List, [], _∷_}
 use Prim.Native.Nat.{ℕ, zero, suc, _+_, _-_, _≤_, _<_}
 use native.Mathlib.Omega.{arith}
 use borrow.Author.Tests.{eq-eqb, ne-eqb}
 use lib.ListN.{length, getD}
+use lib.Seq.{sets, set-out}
 use Rattle.script.specs.declared.Found.the-variants.{Number, Nothing}
+use Rattle.script.specs.declared.Reached.{Reached}
 use Rattle.script.specs.declared.Reached.the-variants.{Wrong, At}
+use Rattle.script.specs.declared.Part.{Part}
+use Rattle.script.specs.declared.Part.the-variants.{WrongLine, Lines}
+use Rattle.script.specs.declared.Parsed.the-variants.{Bad, Script}
 use Rattle.script.specs.Numbers.{numberAt}
-use Rattle.script.specs.Lines.{fieldAt, lineAt, linesAt}
+use Rattle.script.specs.Lines.{fieldAt, lineAt, linesAt, counted, sectionAt, scriptOf, stepsBehind, parse, numbersAt}
 
 module _ (s : List ℕ) (mark at : ℕ) where
   pub field-missing : numberAt s at ≡ Nothing → fieldAt s mark at ≡ Nothing
@@ -57,3 +62,46 @@ module _ (s : List ℕ) (spaces first at : ℕ) where
   unfolding linesAt
   lines-break zero h e = absurd (omega arith)
   lines-break (suc n) h e = rw (e, linesAt)
+
+-- Numbers laid out as words: no room left, none left, one more.
+pub sets-full : (l : List ℕ) (i : ℕ) (vs : List ℕ) → length l ≤ i → sets l i vs ≡ l
+sets-full l i [] h = refl
+sets-full l i (v ∷ vs) h = rw (set-out l i v h) (sets-full l (suc i) vs (omega arith))
+
+module _ (s : List ℕ) (at : ℕ) where
+  pub numbers-none : numbersAt s 0 at ≡ []
+  unfolding numbersAt
+  numbers-none = refl
+
+  pub numbers-stop : (left : ℕ) → 0 < left → numberAt s at ≡ Nothing → numbersAt s left at ≡ []
+  unfolding numbersAt
+  numbers-stop zero h e = absurd (omega arith)
+  numbers-stop (suc n) h e = rw (e, numbersAt)
+
+  pub numbers-go-on : (left v next : ℕ) → 0 < left → numberAt s at ≡ Number v next
+      → numbersAt s left at ≡ v ∷ numbersAt s (left - 1) (next + 1)
+  unfolding numbersAt
+  numbers-go-on zero v next h e = absurd (omega arith)
+  numbers-go-on (suc n) v next h e = rw (less-one n, e, numbersAt)
+
+-- A section has no count, or its lines decide; the first section decides on the whole, and the end of the text at last.
+module _ (s : List ℕ) (spaces first at : ℕ) where
+  pub section-uncounted : lineAt s 0 at ≡ Nothing → sectionAt s spaces first at ≡ WrongLine first
+  unfolding sectionAt
+  section-uncounted e = simp e
+
+  pub section-counted : (count start : ℕ) (r : Reached) → lineAt s 0 at ≡ Number count start → linesAt s count spaces (first + 1) start ≡ r
+      → sectionAt s spaces first at ≡ counted count start r
+  unfolding sectionAt
+  section-counted count start r e f = simp (e, f)
+
+pub parse-by : (s : List ℕ) (x : Part) → sectionAt s 1 1 0 ≡ x → parse s ≡ stepsBehind s x
+unfolding parse
+parse-by s x e = simp e
+
+module _ (s : List ℕ) (admissions start steps first end : ℕ) where
+  pub script-ends : end ≡ length s → scriptOf s admissions start (Lines steps first end) ≡ Script admissions start steps first
+  script-ends e = simp (eq-eqb end (length s) e)
+
+  pub script-goes-on : (end ≡ length s → ⊥) → scriptOf s admissions start (Lines steps first end) ≡ Bad (admissions + steps + 3)
+  script-goes-on e = simp (ne-eqb end (length s) e)

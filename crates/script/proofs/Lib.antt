@@ -1,2 +1,3 @@
 pub mod Digits
 pub mod Format
+pub mod Pages

@@ -21,6 +21,13 @@ line1 n = decimal n ++ (10 ∷ [])
 unfoldable pub line2 : ℕ → ℕ → List ℕ
 line2 a b = decimal a ++ (32 ∷ line1 b)
 
+-- `bad file N`, `too long`
+abbrev pub badFile : ℕ → List ℕ
+badFile n = 98 ∷ 97 ∷ 100 ∷ 32 ∷ 102 ∷ 105 ∷ 108 ∷ 101 ∷ 32 ∷ line1 n
+
+abbrev pub tooLong : List ℕ
+tooLong = 116 ∷ 111 ∷ 111 ∷ 32 ∷ 108 ∷ 111 ∷ 110 ∷ 103 ∷ 10 ∷ []
+
 pub record Page : Type 0 where
   pub bytes : List ℕ
   pub at : ℕ

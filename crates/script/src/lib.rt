@@ -6,8 +6,8 @@ ghost use Prim.Native.Nat.{_+_, _-_, _*_, _≤_, _<_};
 ghost use lib.ListN.{getD};
 ghost use lib.Seq.{sets};
 ghost use Rattle.script.specs.Numbers.{isDigit, capped, scanned, proper, numberAt};
-ghost use Rattle.script.specs.Lines.{fieldAt, lineAt, linesAt, sectionAt, parse, numbersAt};
-ghost use Rattle.script.specs.Printing.{page, put, written, decimal, line1, line2};
+ghost use Rattle.script.specs.Lines.{fieldAt, lineAt, linesAt, sectionAt, scriptOf, parse, numbersAt};
+ghost use Rattle.script.specs.Printing.{page, put, written, decimal, line1, line2, badFile, tooLong};
 
 const SPACE: u8 = 32;
 
@@ -167,4 +167,124 @@ fn section(s: &[u8], spaces: u32, first: usize, at: usize) -> Part
         Reached::Wrong(n) => Part::WrongLine(n),
         Reached::At(next) => Part::Lines(count, start, next),
     }
+}
+
+// The steps behind the admissions, and nothing behind the steps.
+fn steps_behind(s: &[u8], admissions: u32, start: usize, at: usize) -> Parsed
+    ensures { λ r. ⌜ r ≡ scriptOf (now (s .entry)) admissions start (sectionAt (now (s .entry)) 4 (admissions + 2) at) ⌝ }
+{
+    match section(s, 4, (admissions as usize) + 2, at) {
+        Part::WrongLine(n) => Parsed::Bad(n),
+        Part::Lines(steps, first, end) => {
+            if end == s.len() {
+                Parsed::Script(admissions, start, steps, first)
+            } else {
+                Parsed::Bad((admissions as usize) + (steps as usize) + 3)
+            }
+        }
+    }
+}
+
+// The whole text: a script, or its first line that is wrong, missing or extra.
+pub fn parse(s: &[u8]) -> Parsed
+    ensures { λ r. ⌜ r ≡ parse (now (s .entry)) ⌝ }
+{
+    match section(s, 1, 1, 0) {
+        Part::WrongLine(n) => Parsed::Bad(n),
+        Part::Lines(admissions, start, next) => steps_behind(s, admissions, start, next),
+    }
+}
+
+// So many numbers from a place on, laid out as words from `to` on; what has no room is left out.
+pub fn numbers(s: &[u8], count: usize, at: usize, out: &mut [u32], to: usize)
+    ensures { λ _. ⌜ now (out .exit) ≡ sets (now (out .entry)) to (numbersAt (now (s .entry)) count at) ⌝ }
+{
+    let mut left = count;
+    let mut from = at;
+    let mut place = to;
+    while 0 < left {
+        if out.len() <= place {
+            return;
+        }
+        let Found::Number(v, next) = number(s, from) else {
+            return;
+        };
+        out[place] = v;
+        place = place + 1;
+        from = next + 1;
+        left = left - 1;
+    }
+}
+
+// One byte more on a page; what has no room is not written.
+fn put(out: &mut [u8], at: usize, b: u8) -> usize
+    ensures { λ r. ⌜ page (now (out .exit)) r ≡ put (page (now (out .entry)) at) b ⌝ }
+{
+    if at < out.len() {
+        out[at] = b;
+        return at + 1;
+    }
+    at
+}
+
+// A digit's byte.
+fn digit(d: u64) -> u8
+    requires { ⌜ d < 10 ⌝ }
+    ensures { λ r. ⌜ r ≡ d + 48 ⌝ }
+{
+    (d + 48) as u8
+}
+
+// A number in decimal, no needless leading zero.
+pub fn put_number(out: &mut [u8], at: usize, n: u64) -> usize
+    ensures { λ r. ⌜ page (now (out .exit)) r ≡ written (page (now (out .entry)) at) (decimal n) ⌝ }
+{
+    if n < 10 {
+        return put(out, at, digit(n));
+    }
+    let next = put_number(out, at, n / 10);
+    put(out, next, digit(n % 10))
+}
+
+// A line of one number.
+pub fn put_line(out: &mut [u8], at: usize, n: u64) -> usize
+    ensures { λ r. ⌜ page (now (out .exit)) r ≡ written (page (now (out .entry)) at) (line1 n) ⌝ }
+{
+    let next = put_number(out, at, n);
+    put(out, next, LF)
+}
+
+// "answer and value": a line of two numbers.
+pub fn put_pair(out: &mut [u8], at: usize, answer: u32, value: u32) -> usize
+    ensures { λ r. ⌜ page (now (out .exit)) r ≡ written (page (now (out .entry)) at) (line2 answer value) ⌝ }
+{
+    let next = put_number(out, at, answer as u64);
+    let third = put(out, next, SPACE);
+    put_line(out, third, value as u64)
+}
+
+// Bytes as they are.
+fn put_text(out: &mut [u8], at: usize, text: &[u8]) -> usize
+    ensures { λ r. ⌜ page (now (out .exit)) r ≡ written (page (now (out .entry)) at) (now (text .entry)) ⌝ }
+{
+    let mut next = at;
+    for i in 0..text.len() {
+        next = put(out, next, text[i]);
+    }
+    next
+}
+
+// `bad file N`
+pub fn put_bad_file(out: &mut [u8], at: usize, line: u64) -> usize
+    ensures { λ r. ⌜ page (now (out .exit)) r ≡ written (page (now (out .entry)) at) (badFile line) ⌝ }
+{
+    let next = put_text(out, at, b"bad file ");
+    put_line(out, next, line)
+}
+
+// `too long`
+pub fn put_too_long(out: &mut [u8], at: usize) -> usize
+    ensures { λ r. ⌜ page (now (out .exit)) r ≡ written (page (now (out .entry)) at) tooLong ⌝ }
+{
+    put_text(out, at, b"too long\n")
 }
