@@ -1,3 +1,4 @@
 pub mod Digits
 pub mod Format
 pub mod Pages
+pub mod Examples

@@ -1,7 +1,9 @@
--- 01, "Replay": what is printed. A page is lent bytes and the place of the next one; what has no room is not written.
+-- 01, "Replay": what is printed.
 use mathlib.Core.Bool.{Bool, true, false}
 use mathlib.Core.List.{List, [], _∷_, _++_}
 use Prim.Native.Nat.{ℕ, zero, suc, _+_, _/_, _%_}
+use Prim.Native.Char.{code}
+use Prim.Native.String.{String, [] as end, _∷_ as _then_}
 use lib.Dec.{ltb}
 use lib.ListN.{length, set}
 use Rattle.model.specs.Choice.{pick}
@@ -21,13 +23,18 @@ line1 n = decimal n ++ (10 ∷ [])
 unfoldable pub line2 : ℕ → ℕ → List ℕ
 line2 a b = decimal a ++ (32 ∷ line1 b)
 
--- `bad file N`, `too long`
+-- the bytes of a text
+abbrev pub bytes : String → List ℕ
+bytes end = []
+bytes (c then t) = code c ∷ bytes t
+
 abbrev pub badFile : ℕ → List ℕ
-badFile n = 98 ∷ 97 ∷ 100 ∷ 32 ∷ 102 ∷ 105 ∷ 108 ∷ 101 ∷ 32 ∷ line1 n
+badFile n = bytes "bad file " ++ line1 n
 
 abbrev pub tooLong : List ℕ
-tooLong = 116 ∷ 111 ∷ 111 ∷ 32 ∷ 108 ∷ 111 ∷ 110 ∷ 103 ∷ 10 ∷ []
+tooLong = bytes "too long\n"
 
+-- lent bytes and the place of the next one; what has no room is not written
 pub record Page : Type 0 where
   pub bytes : List ℕ
   pub at : ℕ
