@@ -141,7 +141,7 @@ pub proper-small : (first count v : ℕ) → proper first count v ≡ true → v
 proper-small first count v e =
     ⊎-elim (λ p. clash (proper first count v) e (not-proper first count v p)) (λ q. q) (order 4294967295 v)
 
--- a number ends within the text
+-- a number has a digit, ends within the text, and is at most 4294967295
 few-by : (b : ℕ) (t : List ℕ) (x : Bool) → isDigit b ≡ x → length (digits t) ≤ length t → length (digits (b ∷ t)) ≤ length (b ∷ t)
 few-by b t true e h = rw (digits-front b t e) (omega arith)
 few-by b t false e h = rw (digits-stop b t e) (omega arith)
@@ -150,8 +150,8 @@ few-digits : (t : List ℕ) → length (digits t) ≤ length t
 few-digits [] = rw digits-empty (omega arith)
 few-digits (b ∷ t) = few-by b t (isDigit b) refl (few-digits t)
 
-picked : (x : Bool) (v n w m : ℕ) → pick x (Number v n) Nothing ≡ Number w m → (x ≡ true) × (n ≡ m)
-picked true v n w m e = (refl, cc)
+pub picked : (x : Bool) (v n w m : ℕ) → pick x (Number v n) Nothing ≡ Number w m → (x ≡ true) × ((v ≡ w) × (n ≡ m))
+picked true v n w m e = (refl, (cc, cc))
 picked false v n w m e = let z : _≡_ {A = ℕ} 0 1 = cc in absurd (omega arith)
 
 -- digits that are proper are some
@@ -160,9 +160,15 @@ unfolding proper
 some-digits first zero v e = clash false e refl
 some-digits first (suc n) v e = omega arith
 
-pub number-within : (s : List ℕ) (at v next : ℕ) → numberAt s at ≡ Number v next → next ≤ length s
+pub number-takes : (s : List ℕ) (at v next : ℕ) → numberAt s at ≡ Number v next → (at < next) × ((next ≤ length s) × (v ≤ 4294967295))
 unfolding numberAt
-number-within s at v next e =
+number-takes s at v next e =
     let ds = digits (drop at s) in
     let p = picked (proper (getD s at 0) (length ds) (valueFrom 0 ds)) (valueFrom 0 ds) (at + length ds) v next e in
-    omega (arith, p .1, some-digits (getD s at 0) (length ds) (valueFrom 0 ds) (p .0), few-digits (drop at s), length-drop at s)
+    let some : 0 < length ds = some-digits (getD s at 0) (length ds) (valueFrom 0 ds) (p .0) in (
+      omega (arith, p .1 .1),
+      (
+        omega (arith, p .1 .1, few-digits (drop at s), length-drop at s),
+        omega (arith, p .1 .0, proper-small (getD s at 0) (length ds) (valueFrom 0 ds) (p .0)),
+      ),
+    )

@@ -1,4 +1,6 @@
 pub mod Digits
 pub mod Format
 pub mod Pages
+pub mod Extent
+pub mod Room
 pub mod Examples

@@ -63,11 +63,11 @@ digits-enough (suc k) (suc j) n p q =
     ∙ sym (first-digits j n h))
     (order n 10)
 
-decimal-small : (n : ℕ) → n < 10 → decimal n ≡ (n + 48) ∷ []
+pub decimal-small : (n : ℕ) → n < 10 → decimal n ≡ (n + 48) ∷ []
 unfolding decimal
 decimal-small n h = last-digit n n h
 
-decimal-more : (n : ℕ) → 10 ≤ n → decimal n ≡ decimal (n / 10) ++ ((n % 10 + 48) ∷ [])
+pub decimal-more : (n : ℕ) → 10 ≤ n → decimal n ≡ decimal (n / 10) ++ ((n % 10 + 48) ∷ [])
 unfolding decimal
 decimal-more zero h = absurd (omega arith)
 decimal-more (suc n) h =

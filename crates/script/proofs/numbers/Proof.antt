@@ -8,7 +8,7 @@ use denote.Ref.{now}
 use lib.ListN.{length, length-set}
 use lib.Seq.{sets}
 use Rattle.script.specs.Lines.{numbersAt}
-use Rattle.script.proofs.Digits.{number-within}
+use Rattle.script.proofs.Digits.{number-takes}
 use Rattle.script.proofs.Format.{sets-full, numbers-none, numbers-stop, numbers-go-on}
 use Rattle.script.proofs.numbers.Statement.{statement}
 use Rattle.script.proofs.numbers.Tie as tie
@@ -69,7 +69,7 @@ add-from c =
     let l = k .before .before .before in
     omega (
       arith,
-      number-within (now (l .before .before .before .args .s)) (l .loop .from) (f .v .given .0 .0) (f .v .given .0 .1 .0)
+      number-takes (now (l .before .before .before .args .s)) (l .loop .from) (f .v .given .0 .0) (f .v .given .0 .1 .0)
           (sym (k .number .ensures) ∙ f .v .given .1),
     )
 

@@ -1,0 +1,138 @@
+-- How many bytes the numbers, lines and sections of a text take at least: two for each number, its digit and the mark behind it.
+use mathlib.Core.Path.{_≡_, refl, sym, ap, _∙_}
+use mathlib.Core.Bool.{Bool, true, false}
+use mathlib.Core.List.{List}
+use Prim.Native.Nat.{ℕ, zero, suc, _+_, _-_, _*_, _≤_, _<_}
+use native.Mathlib.Nat.{suc-mul, zero-mul}
+use native.Mathlib.Omega.{arith}
+use borrow.Author.Tests.{eqb-true}
+use lib.Dec.{eqb}
+use lib.ListN.{length, getD}
+use Rattle.model.specs.Choice.{pick}
+use Rattle.script.specs.declared.Found.{Found}
+use Rattle.script.specs.declared.Found.the-variants.{Number, Nothing}
+use Rattle.script.specs.declared.Reached.{Reached}
+use Rattle.script.specs.declared.Reached.the-variants.{Wrong, At}
+use Rattle.script.specs.declared.Part.{Part}
+use Rattle.script.specs.declared.Part.the-variants.{WrongLine, Lines}
+use Rattle.script.specs.declared.Parsed.{Parsed}
+use Rattle.script.specs.declared.Parsed.the-variants.{Bad, Script}
+use Rattle.script.specs.Numbers.{numberAt}
+use Rattle.script.specs.Lines.{marked, fieldAt, lineAt, linesAt, counted, sectionOf, sectionAt, scriptOf, stepsBehind, parse}
+use Rattle.script.proofs.Digits.{picked, number-takes}
+use Rattle.script.proofs.Format.{line-ends, line-goes-on, line-breaks, lines-end, lines-go-on, lines-break, section-uncounted, section-counted, parse-by}
+
+-- nothing is found where a number is
+no-number : {A : Type 0} (x : Found) (v next : ℕ) → x ≡ Nothing → x ≡ Number v next → A
+no-number x v next p q = let z : _≡_ {A = ℕ} 0 1 = cc in absurd (omega arith)
+
+not-reached : {A : Type 0} {n next : ℕ} (x : Reached) → x ≡ Wrong n → x ≡ At next → A
+not-reached x p q = let z : _≡_ {A = ℕ} 0 1 = cc in absurd (omega arith)
+
+not-lines : {A : Type 0} {n count start next : ℕ} (x : Part) → x ≡ WrongLine n → x ≡ Lines count start next → A
+not-lines x p q = let z : _≡_ {A = ℕ} 0 1 = cc in absurd (omega arith)
+
+-- a field: at least one digit and the mark
+field-by : (s : List ℕ) (mark at v next : ℕ) (x : Found) → numberAt s at ≡ x → marked s mark x ≡ Number v next → (at + 2 ≤ next) × (v ≤ 4294967295)
+field-by s mark at v next Nothing e f = no-number Nothing v next refl f
+field-by s mark at v next (Number w m) e f =
+    let p = picked (eqb (getD s m 0) mark) w (m + 1) v next f in
+    let t = number-takes s at w m e in
+    (omega (arith, p .1 .0, p .1 .1), omega (arith, p .1 .0, p .1 .1))
+
+field-takes : (s : List ℕ) (mark at v next : ℕ) → fieldAt s mark at ≡ Number v next → (at + 2 ≤ next) × (v ≤ 4294967295)
+unfolding fieldAt
+field-takes s mark at v next e = field-by s mark at v next (numberAt s at) refl e
+
+-- a line: so many numbers and their marks
+line-by : (s : List ℕ) (spaces at v next : ℕ) (x : Found) → fieldAt s 32 at ≡ x → lineAt s (suc spaces) at ≡ Number v next
+    → ((m : ℕ) → lineAt s spaces m ≡ Number v next → m + 2 * spaces + 2 ≤ next) → at + 2 * suc spaces + 2 ≤ next
+line-by s spaces at v next Nothing f e ih = no-number (lineAt s (suc spaces) at) v next (line-breaks s at (suc spaces) (omega arith) f) e
+line-by s spaces at v next (Number w m) f e ih =
+    let g : lineAt s (suc spaces) at ≡ lineAt s spaces m =
+    line-goes-on s at (suc spaces) w m (omega arith) f ∙ ap (λ (n : ℕ). lineAt s n m) (omega arith) in
+    omega (arith, field-takes s 32 at w m f .0, ih m (sym g ∙ e))
+
+line-takes : (s : List ℕ) (spaces at v next : ℕ) → lineAt s spaces at ≡ Number v next → at + 2 * spaces + 2 ≤ next
+line-takes s zero at v next e = omega (arith, field-takes s 10 at v next (sym (line-ends s at) ∙ e) .0)
+line-takes s (suc spaces) at v next e = line-by s spaces at v next (fieldAt s 32 at) refl e (λ m. line-takes s spaces m v next)
+
+-- so many lines, each of w bytes at least
+lines-by : (s : List ℕ) (count spaces first at next : ℕ) (x : Found) → lineAt s spaces at ≡ x → linesAt s (suc count) spaces first at ≡ At next
+    → ((m : ℕ) → linesAt s count spaces (first + 1) m ≡ At next → m + count * (2 * spaces + 2) ≤ next)
+    → at + suc count * (2 * spaces + 2) ≤ next
+lines-by s count spaces first at next Nothing f e ih =
+    not-reached (linesAt s (suc count) spaces first at) (lines-break s spaces first at (suc count) (omega arith) f) e
+lines-by s count spaces first at next (Number v m) f e ih =
+    let g : linesAt s (suc count) spaces first at ≡ linesAt s count spaces (first + 1) m =
+    lines-go-on s spaces first at (suc count) v m (omega arith) f ∙ ap (λ (n : ℕ). linesAt s n spaces (first + 1) m) (omega arith) in
+    rw suc-mul (omega (arith, line-takes s spaces at v m f, ih m (sym g ∙ e)))
+
+lines-take : (s : List ℕ) (count spaces first at next : ℕ) → linesAt s count spaces first at ≡ At next → at + count * (2 * spaces + 2) ≤ next
+lines-take s zero spaces first at next e =
+    let same : At at ≡ At next = sym (lines-end s spaces first at) ∙ e in
+    let z : at ≡ next = cc in
+    rw zero-mul (omega arith)
+lines-take s (suc count) spaces first at next e =
+    lines-by s count spaces first at next (lineAt s spaces at) refl e (λ m. lines-take s count spaces (first + 1) m next)
+
+-- a section: its count's line and its lines
+pub record Takes (spaces at count next : ℕ) : Type 0 where
+  pub bytes : at + 2 + count * (2 * spaces + 2) ≤ next
+  pub small : count ≤ 4294967295
+
+section-by-lines : (s : List ℕ) (spaces first at count start next c st : ℕ) (r : Reached) → lineAt s 0 at ≡ Number c st
+    → linesAt s c spaces (first + 1) st ≡ r → counted c st r ≡ Lines count start next → Takes spaces at count next
+section-by-lines s spaces first at count start next c st (Wrong n) f g e = not-lines (WrongLine n) refl e
+section-by-lines s spaces first at count start next c st (At m) f g e =
+    let k : c ≡ count = cc in
+    let n : m ≡ next = cc in
+    let l : at + 2 * 0 + 2 ≤ st = line-takes s 0 at c st f in
+    let t : st + c * (2 * spaces + 2) ≤ m = lines-take s c spaces (first + 1) st m g in
+    let b : at + 2 + c * (2 * spaces + 2) ≤ m = omega arith in
+    let takes : Takes spaces at c m = record { bytes = b; small = field-takes s 10 at c st (sym (line-ends s at) ∙ f) .1 } in
+    rw (k, n) at takes
+
+section-by : (s : List ℕ) (spaces first at count start next : ℕ) (x : Found) → lineAt s 0 at ≡ x → sectionOf s spaces first x ≡ Lines count start next
+    → Takes spaces at count next
+section-by s spaces first at count start next Nothing f e = not-lines (WrongLine first) refl e
+section-by s spaces first at count start next (Number c st) f e =
+    section-by-lines s spaces first at count start next c st (linesAt s c spaces (first + 1) st) f refl e
+
+section-takes : (s : List ℕ) (spaces first at count start next : ℕ) → sectionAt s spaces first at ≡ Lines count start next
+    → Takes spaces at count next
+unfolding sectionAt
+section-takes s spaces first at count start next e = section-by s spaces first at count start next (lineAt s 0 at) refl e
+
+-- A script: four bytes for each admission, ten for each step, two for each count.
+pub record Fits (s : List ℕ) (admissions steps : ℕ) : Type 0 where
+  pub bytes : 4 * admissions + 10 * steps + 4 ≤ length s
+  pub few-admissions : admissions ≤ 4294967295
+  pub few-steps : steps ≤ 4294967295
+
+not-script : {A : Type 0} {n m at k start : ℕ} (x : Parsed) → x ≡ Bad n → x ≡ Script m at k start → A
+not-script x p q = let z : _≡_ {A = ℕ} 0 1 = cc in absurd (omega arith)
+
+chosen : (x : Bool) (n m at k start m′ at′ k′ start′ : ℕ) → pick x (Script m at k start) (Bad n) ≡ Script m′ at′ k′ start′
+    → (x ≡ true) × ((m ≡ m′) × (k ≡ k′))
+chosen true n m at k start m′ at′ k′ start′ e = (refl, (cc, cc))
+chosen false n m at k start m′ at′ k′ start′ e = not-script (Bad n) refl e
+
+script-by-steps : (s : List ℕ) (m at next m′ at′ k start : ℕ) (y : Part) → sectionAt s 4 (m + 2) next ≡ y → Takes 1 0 m next
+    → scriptOf s m at y ≡ Script m′ at′ k start → Fits s m′ k
+script-by-steps s m at next m′ at′ k start (WrongLine n) f t e = not-script (Bad n) refl e
+script-by-steps s m at next m′ at′ k start (Lines steps st end) f t e =
+    let c = chosen (eqb end (length s)) (m + steps + 3) m at steps st m′ at′ k start e in
+    let u = section-takes s 4 (m + 2) next steps st end f in
+    let z : end ≡ length s = eqb-true end (length s) (c .0) in
+    let fits : Fits s m steps = record { bytes = omega (arith, t .bytes, u .bytes); few-admissions = t .small; few-steps = u .small } in
+    rw (c .1 .0, c .1 .1) at fits
+
+script-by : (s : List ℕ) (m at k start : ℕ) (x : Part) → sectionAt s 1 1 0 ≡ x → stepsBehind s x ≡ Script m at k start → Fits s m k
+script-by s m at k start (WrongLine n) f e = not-script (Bad n) refl e
+script-by s m at k start (Lines a st next) f e =
+    script-by-steps s a st next m at k start (sectionAt s 4 (a + 2) next) refl (section-takes s 1 1 0 a st next f) e
+
+pub script-fits : (s : List ℕ) (m at k start : ℕ) → parse s ≡ Script m at k start → Fits s m k
+unfolding parse
+script-fits s m at k start e = script-by s m at k start (sectionAt s 1 1 0) refl e
