@@ -136,3 +136,56 @@ script-by s m at k start (Lines a st next) f e =
 pub script-fits : (s : List ℕ) (m at k start : ℕ) → parse s ≡ Script m at k start → Fits s m k
 unfolding parse
 script-fits s m at k start e = script-by s m at k start (sectionAt s 1 1 0) refl e
+
+-- The number of a wrong line has at most ten digits.
+wrong-by : (s : List ℕ) (count spaces first at n : ℕ) (x : Found) → lineAt s spaces at ≡ x → linesAt s (suc count) spaces first at ≡ Wrong n
+    → ((m : ℕ) → linesAt s count spaces (first + 1) m ≡ Wrong n → n ≤ first + 1 + count) → n ≤ first + suc count
+wrong-by s count spaces first at n Nothing f e ih =
+    let same : Wrong first ≡ Wrong n = sym (lines-break s spaces first at (suc count) (omega arith) f) ∙ e in
+    let z : first ≡ n = cc in
+    omega arith
+wrong-by s count spaces first at n (Number v m) f e ih =
+    let g : linesAt s (suc count) spaces first at ≡ linesAt s count spaces (first + 1) m =
+    lines-go-on s spaces first at (suc count) v m (omega arith) f ∙ ap (λ (j : ℕ). linesAt s j spaces (first + 1) m) (omega arith) in
+    omega (arith, ih m (sym g ∙ e))
+
+wrong-low : (s : List ℕ) (count spaces first at n : ℕ) → linesAt s count spaces first at ≡ Wrong n → n ≤ first + count
+wrong-low s zero spaces first at n e = not-reached (linesAt s 0 spaces first at) e (lines-end s spaces first at)
+wrong-low s (suc count) spaces first at n e =
+    wrong-by s count spaces first at n (lineAt s spaces at) refl e (λ m. wrong-low s count spaces (first + 1) m n)
+
+section-wrong-lines : (s : List ℕ) (spaces first at n c st : ℕ) (r : Reached) → lineAt s 0 at ≡ Number c st
+    → linesAt s c spaces (first + 1) st ≡ r → counted c st r ≡ WrongLine n → n ≤ first + 4294967296
+section-wrong-lines s spaces first at n c st (At m) f g e = not-lines (counted c st (At m)) e refl
+section-wrong-lines s spaces first at n c st (Wrong k) f g e =
+    let z : k ≡ n = cc in
+    omega (arith, wrong-low s c spaces (first + 1) st k g, field-takes s 10 at c st (sym (line-ends s at) ∙ f) .1)
+
+section-wrong-by : (s : List ℕ) (spaces first at n : ℕ) (x : Found) → lineAt s 0 at ≡ x → sectionOf s spaces first x ≡ WrongLine n
+    → n ≤ first + 4294967296
+section-wrong-by s spaces first at n Nothing f e = let z : first ≡ n = cc in omega arith
+section-wrong-by s spaces first at n (Number c st) f e =
+    section-wrong-lines s spaces first at n c st (linesAt s c spaces (first + 1) st) f refl e
+
+section-wrong : (s : List ℕ) (spaces first at n : ℕ) → sectionAt s spaces first at ≡ WrongLine n → n ≤ first + 4294967296
+unfolding sectionAt
+section-wrong s spaces first at n e = section-wrong-by s spaces first at n (lineAt s 0 at) refl e
+
+refused : (x : Bool) (m at k start j n : ℕ) → pick x (Script m at k start) (Bad j) ≡ Bad n → j ≡ n
+refused true m at k start j n e = not-script (Script m at k start) e refl
+refused false m at k start j n e = cc
+
+bad-by-steps : (s : List ℕ) (m at next n : ℕ) (y : Part) → sectionAt s 4 (m + 2) next ≡ y → m ≤ 4294967295 → scriptOf s m at y ≡ Bad n
+    → n < 10000000000
+bad-by-steps s m at next n (WrongLine k) f h e = let z : k ≡ n = cc in omega (arith, section-wrong s 4 (m + 2) next k f)
+bad-by-steps s m at next n (Lines steps st end) f h e =
+    omega (arith, refused (eqb end (length s)) m at steps st (m + steps + 3) n e, section-takes s 4 (m + 2) next steps st end f .small)
+
+bad-by : (s : List ℕ) (n : ℕ) (x : Part) → sectionAt s 1 1 0 ≡ x → stepsBehind s x ≡ Bad n → n < 10000000000
+bad-by s n (WrongLine k) f e = let z : k ≡ n = cc in omega (arith, section-wrong s 1 1 0 k f)
+bad-by s n (Lines a st next) f e =
+    bad-by-steps s a st next n (sectionAt s 4 (a + 2) next) refl (section-takes s 1 1 0 a st next f .small) e
+
+pub bad-low : (s : List ℕ) (n : ℕ) → parse s ≡ Bad n → n < 10000000000
+unfolding parse
+bad-low s n e = bad-by s n (sectionAt s 1 1 0) refl e

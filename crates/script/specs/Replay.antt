@@ -49,18 +49,18 @@ unfoldable pub printed : ℕ → ℕ → Ran → Ran → List ℕ
 printed admissions steps first then =
     line1 admissions ++ (answerLines (first .slots) ++ (line1 steps ++ (answerLines (then .slots) ++ totalLines (then .next))))
 
--- the admissions from fresh, then the steps, one by one
-unfoldable pub stepsRun : ℕ → ℕ → List ℕ → Ran → List ℕ
-stepsRun admissions steps words first = printed admissions steps first (oneByOne act (first .next) (stepsFrom words 0 steps))
+-- the admissions from fresh, and the steps behind them, one by one
+unfoldable pub admissionsRun : List ℕ → ℕ → ℕ → Ran
+admissionsRun s count at = oneByOne act fresh (admissionsFrom (numbersAt s (2 * count) at) 0 count)
 
-unfoldable pub admissionsRun : ℕ → List ℕ → Ran
-admissionsRun n words = oneByOne act fresh (admissionsFrom words 0 n)
+unfoldable pub stepsRun : List ℕ → ℕ → ℕ → Ran → Ran
+stepsRun s count at first = oneByOne act (first .next) (stepsFrom (numbersAt s (5 * count) at) 0 count)
 
 -- "prints only `bad file N`, N its line from 1; nothing is run"
 unfoldable pub replayed : List ℕ → Parsed → List ℕ
 replayed s (Bad n) = badFile n
-replayed s (Script admissions at steps first) =
-    stepsRun admissions steps (numbersAt s (5 * steps) first) (admissionsRun admissions (numbersAt s (2 * admissions) at))
+replayed s (Script admissions at steps start) =
+    printed admissions steps (admissionsRun s admissions at) (stepsRun s steps start (admissionsRun s admissions at))
 
 -- "at most 65,536 bytes (else prints `too long`)"
 unfoldable pub replayText : List ℕ → List ℕ
