@@ -103,10 +103,10 @@ pub record Sized (first then : Ran) : Type 0 where
   pub stepped : Short (then .slots)
   pub totals : Totals (then .next)
 
-printed-short : (s : List ℕ) (m k : ℕ) (first then : Ran) → Fits s m k → length s ≤ 65536
+printed-short : (s : List ℕ) (m at k start : ℕ) (first then : Ran) → Fits s m at k start → length s ≤ 65536
     → length (first .slots) ≡ 2 * m → length (then .slots) ≡ 2 * k → Sized first then → length (printed m k first then) ≤ 229440
 unfolding printed
-printed-short s m k first then fits h lm lk z =
+printed-short s m at k start first then fits h lm lk z =
     simp length-append
     (omega (
       arith,
@@ -136,7 +136,7 @@ replayed-short : (s : List ℕ) (x : Parsed) → parse s ≡ x → length s ≤ 
 unfolding replayed
 replayed-short s (Bad n) e h z = omega (arith, line1-short 9 n (bad-low s n e))
 replayed-short s (Script m at k start) e h z =
-    printed-short s m k (admissionsRun s m at) (stepsRun s k start (admissionsRun s m at)) (script-fits s m at k start e) h
+    printed-short s m at k start (admissionsRun s m at) (stepsRun s k start (admissionsRun s m at)) (script-fits s m at k start e) h
     (admissions-slots s m at) (steps-slots s k start (admissionsRun s m at)) (z m at k start e)
 
 pub replay-short : (s : List ℕ) → SizedRuns s → length (replayText s) ≤ 229440
