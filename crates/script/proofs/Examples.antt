@@ -15,7 +15,7 @@ use Rattle.model.specs.Calls.{stepsFrom}
 use Rattle.script.specs.Numbers.{isDigit, digits, valueFrom, proper, numberAt}
 use Rattle.script.specs.Lines.{fieldAt, lineAt, linesAt, sectionAt, parse, numbersAt}
 use Rattle.script.specs.Printing.{bytes, decimalIn, decimal, line1, line2}
-use Rattle.script.specs.Replay.{admissionsFrom, answerLines, totalLines, printed, stepsRun, admissionsRun, replayed, replayText}
+use Rattle.script.specs.Replay.{admissionsFrom, answerLines, fiveTotals, printed, stepsRun, admissionsRun, replayed, replayText}
 
 -- what is read, and what is printed
 pub record Example : Type 0 where
@@ -80,5 +80,5 @@ pub examples-hold : map replay examples ≡ map expected examples
 unfolding
     kindTable ofKind laid bit withBit used put putRun countUsed fill freeCells runAt lowestFrom lowestRun every rise atHeader swap forwarded barrier
     replicaWord copyWord settle act stepsFrom isDigit digits valueFrom proper numberAt fieldAt lineAt linesAt sectionAt parse numbersAt
-    decimalIn decimal line1 line2 admissionsFrom answerLines totalLines printed stepsRun admissionsRun replayed replayText
+    decimalIn decimal line1 line2 admissionsFrom answerLines fiveTotals printed stepsRun admissionsRun replayed replayText
 examples-hold = refl

@@ -29,7 +29,7 @@ module _ (s : List ℕ) (mark at : ℕ) where
   unfolding fieldAt
   field-unmarked v next e m = simp (e, ne-eqb (getD s next 0) mark m)
 
-less-one : (n : ℕ) → suc n - 1 ≡ n
+pub less-one : (n : ℕ) → suc n - 1 ≡ n
 less-one n = omega arith
 
 module _ (s : List ℕ) (at : ℕ) where

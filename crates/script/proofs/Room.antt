@@ -20,7 +20,7 @@ use Rattle.model.specs.Calls.{Ran, oneByOne, stepsFrom}
 use Rattle.script.specs.declared.Parsed.{Parsed}
 use Rattle.script.specs.declared.Parsed.the-variants.{Bad, Script}
 use Rattle.script.specs.Lines.{parse, numbersAt}
-use Rattle.script.specs.Replay.{admissionsFrom, answerLines, allSwaps, totalLines, printed, admissionsRun, stepsRun, replayed, replayText}
+use Rattle.script.specs.Replay.{admissionsFrom, answerLines, allSwaps, fiveTotals, totalLines, printed, admissionsRun, stepsRun, replayed, replayText}
 use Rattle.script.specs.Printing.{decimal, line1, line2, page, put, written}
 use Rattle.script.proofs.Extent.{Fits, script-fits, bad-low}
 use Rattle.script.proofs.Pages.{put-room, decimal-small, decimal-more}
@@ -84,7 +84,7 @@ pub record Totals (s : State) : Type 0 where
   pub filled : fill (s .control .map) ≤ 1024
 
 totals-short : (s : State) → Totals s → length (totalLines s) ≤ 52
-unfolding totalLines
+unfolding fiveTotals
 totals-short s t =
     simp length-append
     (omega (

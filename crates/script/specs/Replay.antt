@@ -31,18 +31,20 @@ answerLines (n ∷ []) = []
 answerLines (n ∷ v ∷ slots) = line2 n v ++ answerLines slots
 
 -- "five totals: begun, committed, aborted, all swaps, fill"
+unfoldable pub fiveTotals : ℕ → ℕ → ℕ → ℕ → ℕ → List ℕ
+fiveTotals begun committed aborted swaps filled =
+    line1 5 ++ (line1 begun ++ (line1 committed ++ (line1 aborted ++ (line1 swaps ++ line1 filled))))
+
 abbrev pub swapsOf : Row → ℕ
 swapsOf r = r .swaps
 
 abbrev pub allSwaps : List Row → ℕ
 allSwaps table = total swapsOf table
 
-unfoldable pub totalLines : State → List ℕ
+abbrev pub totalLines : State → List ℕ
 totalLines s =
-    line1 5
-    ++ (line1 (s .control .begun)
-    ++ (line1 (s .control .committed)
-    ++ (line1 (s .control .aborted) ++ (line1 (allSwaps (s .table)) ++ line1 (fill (s .control .map))))))
+    let c = s .control in
+    fiveTotals (c .begun) (c .committed) (c .aborted) (allSwaps (s .table)) (fill (c .map))
 
 -- "Output, each section after its count"
 unfoldable pub printed : ℕ → ℕ → Ran → Ran → List ℕ

@@ -7,6 +7,7 @@ ghost use lib.ListN.{getD};
 ghost use lib.Seq.{sets};
 ghost use Rattle.script.specs.Numbers.{isDigit, capped, scanned, proper, numberAt};
 ghost use Rattle.script.specs.Lines.{fieldAt, lineAt, linesAt, sectionAt, scriptOf, parse, numbersAt};
+ghost use Rattle.script.specs.Replay.{fiveTotals};
 ghost use Rattle.script.specs.Printing.{page, put, written, decimal, line1, line2, badFile, tooLong};
 
 const SPACE: u8 = 32;
@@ -287,4 +288,24 @@ pub fn put_too_long(out: &mut [u8], at: usize) -> usize
     ensures { λ r. ⌜ page (now (out .exit)) r ≡ written (page (now (out .entry)) at) tooLong ⌝ }
 {
     put_text(out, at, b"too long\n")
+}
+
+// "then five totals: begun, committed, aborted, all swaps, fill", after their count
+pub fn put_totals(
+    out: &mut [u8],
+    at: usize,
+    begun: u32,
+    committed: u32,
+    aborted: u32,
+    swaps: u64,
+    fill: u32,
+) -> usize
+    ensures { λ r. ⌜ page (now (out .exit)) r ≡ written (page (now (out .entry)) at) (fiveTotals begun committed aborted swaps fill) ⌝ }
+{
+    let first = put_line(out, at, 5);
+    let second = put_line(out, first, begun as u64);
+    let third = put_line(out, second, committed as u64);
+    let fourth = put_line(out, third, aborted as u64);
+    let fifth = put_line(out, fourth, swaps);
+    put_line(out, fifth, fill as u64)
 }
