@@ -1,9 +1,8 @@
 -- Room: a text of 65,536 bytes holds at most 32,766 numbers, and what is printed for it has at most 229,440 bytes, which are all written.
-use mathlib.Core.Path.{_≡_, refl, sym, ap, _∙_}
-use mathlib.Core.Bool.{Bool, true, false}
+use mathlib.Core.Path.{_≡_, refl, ap, _∙_}
 use mathlib.Core.Logic.{⊎-elim}
-use mathlib.Core.List.{List, [], _∷_, _++_}
-use Prim.Native.Nat.{ℕ, zero, suc, _+_, _*_, _/_, _%_, _^_, _≤_, _<_}
+use mathlib.Core.List.{List, [], _∷_}
+use Prim.Native.Nat.{ℕ, zero, suc, _+_, _*_, _/_, _^_, _≤_, _<_}
 use native.Mathlib.Nat.{pow-suc}
 use native.Mathlib.Omega.{arith}
 use native.Mathlib.Numerals.{add-one}
@@ -21,7 +20,7 @@ use Rattle.script.specs.declared.Parsed.{Parsed}
 use Rattle.script.specs.declared.Parsed.the-variants.{Bad, Script}
 use Rattle.script.specs.Lines.{parse, numbersAt}
 use Rattle.script.specs.Replay.{admissionsFrom, answerLines, allSwaps, fiveTotals, totalLines, printed, admissionsRun, stepsRun, replayed, replayText}
-use Rattle.script.specs.Printing.{decimal, line1, line2, page, put, written}
+use Rattle.script.specs.Printing.{decimal, line1, line2, page, written}
 use Rattle.script.proofs.Extent.{Fits, script-fits, bad-low}
 use Rattle.script.proofs.Pages.{put-room, decimal-small, decimal-more}
 

@@ -1,6 +1,5 @@
 -- 01, "Replay": "one space between, each line ended by LF. Two sections, each after its count: admissions `meter kind`, steps
 -- `who code a b v`. A line that is wrong, missing or extra: prints only `bad file N`, N its line from 1".
-use mathlib.Core.Bool.{Bool, true, false}
 use mathlib.Core.List.{List, [], _∷_}
 use Prim.Native.Nat.{ℕ, zero, suc, _+_}
 use lib.Dec.{eqb}

@@ -1,9 +1,8 @@
 -- `put_number` by recursion: a number below ten is its digit; any other is its tenth's digits and its last. The measure is the number.
 -- Assumes nothing.
 use borrow.Author.Needs.{needs}
-use mathlib.Core.Path.{_≡_, refl, sym, ap, _∙_}
-use Prim.Native.Nat.{ℕ, _/_, _%_, _+_, _<_}
-use native.Mathlib.Omega.{arith}
+use mathlib.Core.Path.{sym, ap, _∙_}
+use Prim.Native.Nat.{ℕ, _%_, _+_, _<_}
 use denote.Ref.{now}
 use Rattle.script.specs.Printing.{Page, page, put}
 use Rattle.script.proofs.Pages.{written-small, written-large}

@@ -2,7 +2,6 @@
 use borrow.Author.Needs.{needs}
 use mathlib.Core.Path.{sym}
 use Prim.Native.Nat.{_+_, _-_, _*_}
-use native.Mathlib.Omega.{arith}
 use Rattle.script.proofs.Digits.{digit-low, capped-small, capped-large}
 use Rattle.script.proofs.more.Statement.{statement}
 use Rattle.script.proofs.more.Tie as tie

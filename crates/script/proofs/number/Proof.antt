@@ -1,12 +1,10 @@
 -- `number`: what the scan found is proper or not; the laws number-proper and number-improper say what that makes of the number. Assumes nothing.
 use borrow.Author.Needs.{needs}
 use mathlib.Core.Path.{_≡_, sym, ap, _∙_}
-use mathlib.Core.Bool.{true, false}
-use Prim.Native.Nat.{ℕ, _-_, _≤_}
+use Prim.Native.Nat.{ℕ, _-_}
 use native.Mathlib.Omega.{arith}
 use denote.Ref.{now}
 use lib.ListN.{getD}
-use Rattle.script.specs.declared.Scanned.{Scanned}
 use Rattle.script.specs.Numbers.{proper}
 use Rattle.script.proofs.Digits.{scan-forward, proper-small, number-proper, number-improper}
 use Rattle.script.proofs.number.Statement.{statement}

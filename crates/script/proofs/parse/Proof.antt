@@ -1,6 +1,6 @@
 -- `parse`: what the first section says decides. Assumes nothing.
 use borrow.Author.Needs.{needs}
-use mathlib.Core.Path.{_≡_, sym, ap, _∙_}
+use mathlib.Core.Path.{sym, _∙_}
 use denote.Ref.{now}
 use Rattle.script.proofs.Format.{parse-by}
 use Rattle.script.proofs.parse.Statement.{statement}

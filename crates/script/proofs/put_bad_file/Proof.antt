@@ -1,7 +1,6 @@
 -- `put_bad_file`: the words, then a line of the number. Assumes nothing.
 use borrow.Author.Needs.{needs}
-use mathlib.Core.Path.{_≡_, sym, ap, _∙_}
-use denote.Ref.{now}
+use mathlib.Core.Path.{ap, _∙_}
 use Rattle.script.specs.Printing.{Page, written, line1}
 use Rattle.script.proofs.put_bad_file.Statement.{statement}
 use Rattle.script.proofs.put_bad_file.Tie as tie

@@ -1,6 +1,6 @@
 -- `put_line`: the digits, then LF. Assumes nothing.
 use borrow.Author.Needs.{needs}
-use mathlib.Core.Path.{_≡_, sym, ap, _∙_}
+use mathlib.Core.Path.{sym, ap, _∙_}
 use denote.Ref.{now}
 use Rattle.script.specs.Printing.{Page, page, put}
 use Rattle.script.proofs.Pages.{written-line1}

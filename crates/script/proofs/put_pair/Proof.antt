@@ -1,6 +1,6 @@
 -- `put_pair`: the digits, a space, and a line of the second number. Assumes nothing.
 use borrow.Author.Needs.{needs}
-use mathlib.Core.Path.{_≡_, sym, ap, _∙_}
+use mathlib.Core.Path.{sym, ap, _∙_}
 use denote.Ref.{now}
 use Rattle.script.specs.Printing.{Page, page, put, written, line1}
 use Rattle.script.proofs.Pages.{written-line2}
