@@ -19,8 +19,8 @@ use Rattle.script.specs.declared.Parsed.{Parsed}
 use Rattle.script.specs.declared.Parsed.the-variants.{Bad, Script}
 use Rattle.script.specs.Numbers.{numberAt}
 use Rattle.script.specs.Lines.{marked, fieldAt, lineAt, linesAt, counted, sectionOf, sectionAt, scriptOf, stepsBehind, parse, numbersAt}
-use Rattle.script.proofs.Digits.{picked, number-takes}
-use Rattle.script.proofs.Format.{line-ends, line-goes-on, line-breaks, lines-end, lines-go-on, lines-break, numbers-none, numbers-go-on}
+use Rattle.script.proofs.Numbers.{picked, number-takes}
+use Rattle.script.proofs.Lines.{line-ends, line-goes-on, line-breaks, lines-end, lines-go-on, lines-break, numbers-none, numbers-go-on}
 
 -- nothing is found where a number is
 no-number : {A : Type 0} (x : Found) (v next : ℕ) → x ≡ Nothing → x ≡ Number v next → A
@@ -75,7 +75,8 @@ line-by s spaces at v next (Number w m) f e ih =
     let d = field-is s 32 at w m f in
     record {
       takes = omega (arith, field-takes d .0, l .takes);
-      counts = λ r. ap (λ (n : ℕ). length (numbersAt s n at)) (omega arith) ∙ field-counts d (suc spaces + r) ∙ ap suc (l .counts r) ∙ omega arith;
+      counts = λ r. ap (λ (n : ℕ). length (numbersAt s n at)) (omega arith)
+          ∙ field-counts d (suc spaces + r) ∙ ap suc (l .counts r) ∙ omega arith;
     }
 
 line-is : (s : List ℕ) (spaces at v next : ℕ) → lineAt s spaces at ≡ Number v next → Line s spaces at next
@@ -92,7 +93,8 @@ record Block (s : List ℕ) (count spaces at next : ℕ) : Type 0 where
   pub takes : at + count * (2 * spaces + 2) ≤ next
   pub counts : (r : ℕ) → length (numbersAt s (count * suc spaces + r) at) ≡ count * suc spaces + length (numbersAt s r next)
 
-lines-by : (s : List ℕ) (count spaces first at next : ℕ) (x : Found) → lineAt s spaces at ≡ x → linesAt s (suc count) spaces first at ≡ At next
+lines-by : (s : List ℕ) (count spaces first at next : ℕ) (x : Found) → lineAt s spaces at ≡ x
+    → linesAt s (suc count) spaces first at ≡ At next
     → ((m : ℕ) → linesAt s count spaces (first + 1) m ≡ At next → Block s count spaces m next) → Block s (suc count) spaces at next
 lines-by s count spaces first at next Nothing f e ih =
     not-reached (linesAt s (suc count) spaces first at) (lines-break s spaces first at (suc count) (omega arith) f) e
@@ -103,7 +105,8 @@ lines-by s count spaces first at next (Number v m) f e ih =
     let b = ih m (sym g ∙ e) in
     record {
       takes = rw suc-mul (omega (arith, l .takes, b .takes));
-      counts = λ r. ap (λ (n : ℕ). length (numbersAt s n at)) (omega (arith, suc-mul count (suc spaces))) ∙ l .counts (count * suc spaces + r)
+      counts = λ r. ap (λ (n : ℕ). length (numbersAt s n at)) (omega (arith, suc-mul count (suc spaces)))
+          ∙ l .counts (count * suc spaces + r)
           ∙ omega (arith, suc-mul count (suc spaces), b .counts r);
     }
 

@@ -1,7 +1,7 @@
-pub mod Digits
-pub mod Format
+pub mod Numbers
+pub mod Lines
 pub mod Pages
 pub mod Extent
 pub mod Room
-pub mod Replaying
+pub mod Replay
 pub mod Examples

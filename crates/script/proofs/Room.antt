@@ -25,7 +25,8 @@ use Rattle.script.proofs.Extent.{Fits, script-fits, bad-low}
 use Rattle.script.proofs.Pages.{put-room, decimal-small, decimal-more}
 
 -- where there is room, all of a text is written
-pub written-whole : (l bytes : List ℕ) (at : ℕ) → at + length l ≤ length bytes → written (page bytes at) l ≡ page (sets bytes at l) (at + length l)
+pub written-whole : (l bytes : List ℕ) (at : ℕ) → at + length l ≤ length bytes
+    → written (page bytes at) l ≡ page (sets bytes at l) (at + length l)
 unfolding written
 written-whole [] bytes at h = ap (page bytes) (omega arith)
 written-whole (b ∷ l) bytes at h =
@@ -120,12 +121,14 @@ printed-short s m at k start first then fits h lm lk z =
 admissions-slots : (s : List ℕ) (m at : ℕ) → length (admissionsRun s m at .slots) ≡ 2 * m
 unfolding admissionsRun
 admissions-slots s m at =
-    slots-length act fresh (admissionsFrom (numbersAt s (2 * m) at) 0 m) ∙ ap (λ (n : ℕ). 2 * n) (admissions-length (numbersAt s (2 * m) at) 0 m)
+    slots-length act fresh (admissionsFrom (numbersAt s (2 * m) at) 0 m)
+    ∙ ap (λ (n : ℕ). 2 * n) (admissions-length (numbersAt s (2 * m) at) 0 m)
 
 steps-slots : (s : List ℕ) (k at : ℕ) (first : Ran) → length (stepsRun s k at first .slots) ≡ 2 * k
 unfolding stepsRun
 steps-slots s k at first =
-    slots-length act (first .next) (stepsFrom (numbersAt s (5 * k) at) 0 k) ∙ ap (λ (n : ℕ). 2 * n) (steps-length (numbersAt s (5 * k) at) 0 k)
+    slots-length act (first .next) (stepsFrom (numbersAt s (5 * k) at) 0 k)
+    ∙ ap (λ (n : ℕ). 2 * n) (steps-length (numbersAt s (5 * k) at) 0 k)
 
 -- a script's runs are sized
 abbrev pub SizedRuns : List ℕ → Type 0
@@ -141,5 +144,6 @@ replayed-short s (Script m at k start) e h z =
 pub replay-short : (s : List ℕ) → SizedRuns s → length (replayText s) ≤ 229440
 unfolding replayText
 replay-short s z =
-    ⊎-elim (λ p. simp (lt-ltb 65536 (length s) p) (omega arith)) (λ q. simp (le-ltb 65536 (length s) q) (replayed-short s (parse s) refl q z))
+    ⊎-elim (λ p. simp (lt-ltb 65536 (length s) p) (omega arith))
+    (λ q. simp (le-ltb 65536 (length s) q) (replayed-short s (parse s) refl q z))
     (order 65536 (length s))
