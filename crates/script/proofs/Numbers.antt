@@ -16,7 +16,7 @@ use Rattle.script.specs.declared.Scanned.{Scanned}
 use Rattle.script.specs.declared.Found.the-variants.{Number, Nothing}
 use Rattle.script.specs.Numbers.{isDigit, digits, valueFrom, proper, numberOf, numberAt, capped, scanned}
 
-and-false : (p : Bool) → (p and false) ≡ false
+pub and-false : (p : Bool) → (p and false) ≡ false
 and-false true = refl
 and-false false = refl
 
@@ -35,15 +35,15 @@ digit-high b e = leb-true b 57 (and-parts (leb 48 b) (leb b 57) e .1)
 pub digit-in-text : (s : List ℕ) (i : ℕ) → isDigit (getD s i 0) ≡ true → i < length s
 digit-in-text s i e = in-text s i (omega (arith, digit-low (getD s i 0) e))
 
-digits-front : (b : ℕ) (t : List ℕ) → isDigit b ≡ true → digits (b ∷ t) ≡ b ∷ digits t
+pub digits-front : (b : ℕ) (t : List ℕ) → isDigit b ≡ true → digits (b ∷ t) ≡ b ∷ digits t
 unfolding digits
 digits-front b t e = rw (e, digits)
 
-digits-stop : (b : ℕ) (t : List ℕ) → isDigit b ≡ false → digits (b ∷ t) ≡ []
+pub digits-stop : (b : ℕ) (t : List ℕ) → isDigit b ≡ false → digits (b ∷ t) ≡ []
 unfolding digits
 digits-stop b t e = rw (e, digits)
 
-digits-empty : digits [] ≡ []
+pub digits-empty : digits [] ≡ []
 unfolding digits
 digits-empty = refl
 
@@ -156,7 +156,7 @@ picked true v n w m e = (refl, (cc, cc))
 picked false v n w m e = let z : _≡_ {A = ℕ} 0 1 = cc in absurd (omega arith)
 
 -- digits that are proper are some
-some-digits : (first count v : ℕ) → proper first count v ≡ true → 0 < count
+pub some-digits : (first count v : ℕ) → proper first count v ≡ true → 0 < count
 unfolding proper
 some-digits first zero v e = clash false e refl
 some-digits first (suc n) v e = omega arith
