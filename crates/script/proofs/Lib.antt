@@ -2,7 +2,8 @@ pub mod Numbers
 pub mod Lines
 pub mod Pages
 pub mod Decimal
-pub mod Extent
+pub mod Texts
+pub mod Accepted
 pub mod Room
 pub mod Replay
 pub mod Examples

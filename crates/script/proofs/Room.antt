@@ -21,7 +21,7 @@ use Rattle.script.specs.declared.Parsed.the-variants.{Bad, Script}
 use Rattle.script.specs.Lines.{parse, numbersAt}
 use Rattle.script.specs.Replay.{admissionsFrom, answerLines, allSwaps, fiveTotals, totalLines, printed, admissionsRun, stepsRun, replayed, replayText}
 use Rattle.script.specs.Printing.{decimal, line1, line2, page, written}
-use Rattle.script.proofs.Extent.{Fits, script-fits, bad-low}
+use Rattle.script.proofs.Accepted.{Fits, script-fits, bad-low}
 use Rattle.script.proofs.Pages.{put-room, decimal-small, decimal-more}
 
 -- where there is room, all of a text is written
