@@ -11,19 +11,10 @@ use lib.ListN.{length, getD, drop, length-append, List·getD-append}
 use lib.Seq.{getD-drop, drop-drop}
 use Rattle.model.specs.Choice.{_or_}
 use Rattle.model.proofs.Choice.{clash, order}
-use Rattle.script.specs.declared.Found.the-variants.{Number, Nothing}
+use Rattle.script.specs.declared.Found.the-variants.{Number}
 use Rattle.script.specs.Numbers.{isDigit, digits, valueFrom, proper, numberAt}
 use Rattle.script.specs.Printing.{decimal}
-use Rattle.script.proofs.Numbers.{
-  and-false,
-  digit-low,
-  digit-high,
-  digits-front,
-  digits-stop,
-  digits-empty,
-  some-digits,
-  picked,
-}
+use Rattle.script.proofs.Numbers.{and-false, digit-low, digit-high, digits-front, digits-stop, digits-empty, some-digits, picked}
 use Rattle.script.proofs.Pages.{decimal-small, decimal-more}
 
 -- bytes that are all digits

@@ -4,6 +4,7 @@ pub mod Pages
 pub mod Decimal
 pub mod Texts
 pub mod Accepted
+pub mod Accepts
 pub mod Room
 pub mod Replay
 pub mod Examples

@@ -22,8 +22,8 @@ linesText (suc n) w words = lineText (take w words) ++ linesText n w (drop w wor
 
 -- "Two sections, each after its count"
 unfoldable pub scriptText : ℕ → List ℕ → ℕ → List ℕ → List ℕ
-scriptText admissions words steps more =
-    (line1 admissions ++ linesText admissions 2 words) ++ (line1 steps ++ linesText steps 5 more)
+scriptText admissions words steps others =
+    (line1 admissions ++ linesText admissions 2 words) ++ (line1 steps ++ linesText steps 5 others)
 
 pub rest-is-line : (l : List ℕ) → 0 < length l → lineRest l ≡ 32 ∷ lineText l
 unfolding lineRest lineText
