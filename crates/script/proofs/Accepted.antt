@@ -22,7 +22,7 @@ use Rattle.script.specs.Numbers.{numberAt}
 use Rattle.script.specs.Printing.{decimal, line1}
 use Rattle.script.specs.Lines.{marked, fieldAt, lineAt, linesAt, counted, sectionOf, sectionAt, scriptOf, stepsBehind, parse, numbersAt}
 use Rattle.script.proofs.Numbers.{in-text, picked, number-takes}
-use Rattle.script.proofs.Texts.{lineRest, lineText, linesText, scriptText, rest-is-line}
+use Rattle.script.specs.Texts.{lineRest, lineText, linesText, scriptText}
 use Rattle.script.proofs.Decimal.{number-stands}
 use Rattle.script.proofs.Lines.{line-ends, line-goes-on, line-breaks, lines-end, lines-go-on, lines-break, numbers-none, numbers-go-on}
 
@@ -73,6 +73,11 @@ module _ {s : List ℕ} {mark at v next : ℕ} (f : Field s mark at v next) wher
       ∙ ap (λ (l : List ℕ). decimal v ++ l)
       (drop-cons s (f .behind) 0 i ∙ ap (λ (b : ℕ). b ∷ drop (suc (f .behind)) s) (f .marks) ∙ ap (λ (k : ℕ). mark ∷ drop k s) n)
 
+rest-is-line : (l : List ℕ) → 0 < length l → lineRest l ≡ 32 ∷ lineText l
+unfolding lineRest lineText
+rest-is-line [] h = absurd (omega arith)
+rest-is-line (n ∷ l) h = refl
+
 -- a line: so many numbers and their marks
 record Line (s : List ℕ) (spaces at next : ℕ) : Type 0 where
   pub takes : at + 2 * spaces + 2 ≤ next
@@ -86,7 +91,8 @@ last-number s at v next f =
     let one : numbersAt s 1 at ≡ v ∷ [] = field-splits f 0 ∙ ap (λ (l : List ℕ). v ∷ l) (numbers-none s next) in
     record {
       takes = omega (arith, field-takes f .0);
-      splits = λ r. ap (λ (n : ℕ). numbersAt s n at) (omega arith) ∙ field-splits f r ∙ ap (λ (l : List ℕ). l ++ numbersAt s r next) (sym one);
+      splits = λ r. ap (λ (n : ℕ). numbersAt s n at) (omega arith) ∙ field-splits f r
+          ∙ ap (λ (l : List ℕ). l ++ numbersAt s r next) (sym one);
       whole = ap length one;
       stands = rw one (field-stands f (omega arith) ∙ sym (append-assoc (decimal v) (10 ∷ []) (drop next s)));
     }
@@ -131,7 +137,8 @@ no-lines s spaces at =
     let none : numbersAt s (0 * suc spaces) at ≡ [] = ap (λ (n : ℕ). numbersAt s n at) (zero-mul (suc spaces)) ∙ numbers-none s at in
     record { takes = rw zero-mul (omega arith); whole = ap length none ∙ sym (zero-mul (suc spaces)); stands = refl }
 
-line-before : (s : List ℕ) (count spaces at m next : ℕ) → Line s spaces at m → Block s count spaces m next → Block s (suc count) spaces at next
+line-before : (s : List ℕ) (count spaces at m next : ℕ) → Line s spaces at m → Block s count spaces m next
+    → Block s (suc count) spaces at next
 unfolding linesText
 line-before s count spaces at m next l b =
     let w : ℕ = suc spaces in
@@ -143,7 +150,8 @@ line-before s count spaces at m next l b =
       takes = rw suc-mul (omega (arith, l .takes, b .takes));
       whole = ap length all ∙ length-append a r ∙ omega (arith, l .whole, b .whole, suc-mul count w);
       stands = rw (all, take-at a r w (l .whole), drop-at a r w (l .whole))
-          (l .stands ∙ ap (λ (x : List ℕ). lineText a ++ x) (b .stands) ∙ sym (append-assoc (lineText a) (linesText count w r) (drop next s)));
+          (l .stands ∙ ap (λ (x : List ℕ). lineText a ++ x) (b .stands)
+          ∙ sym (append-assoc (lineText a) (linesText count w r) (drop next s)));
     }
 
 lines-by : (s : List ℕ) (count spaces first at next : ℕ) (x : Found) → lineAt s spaces at ≡ x

@@ -17,7 +17,7 @@ use Rattle.script.specs.Printing.{decimal, line1}
 use Rattle.script.proofs.Lines.{field-marked, line-ends, line-goes-on, lines-end, lines-go-on, less-one, numbers-none, numbers-go-on, section-counted, parse-by, script-ends}
 use Rattle.script.proofs.Numbers.{in-text}
 use Rattle.script.proofs.Decimal.{number-reads}
-use Rattle.script.proofs.Texts.{lineRest, lineText, linesText, scriptText}
+use Rattle.script.specs.Texts.{lineRest, lineText, linesText, scriptText}
 
 -- "Decimal numbers to 4294967295"
 pub data Small : List ℕ → Type 0 where
@@ -91,12 +91,14 @@ line-reads s at n [] rest h p e =
       within = f .within;
     }
 line-reads s at n (m ∷ l) rest h (more q p) e =
-    let f = field-reads s 32 at n (lineText (m ∷ l) ++ rest) h (omega arith) space-no-digit (e ∙ append-assoc (decimal n) (lineRest (m ∷ l)) rest) in
+    let f = field-reads s 32 at n (lineText (m ∷ l) ++ rest) h (omega arith) space-no-digit
+    (e ∙ append-assoc (decimal n) (lineRest (m ∷ l)) rest) in
     let g = line-reads s (f .next) m l rest q p (f .left) in
     record {
       value = g .value;
       next = g .next;
-      found = line-goes-on s at (suc (length l)) n (f .next) (omega arith) (f .found) ∙ ap (λ (k : ℕ). lineAt s k (f .next)) (less-one (length l))
+      found = line-goes-on s at (suc (length l)) n (f .next) (omega arith) (f .found)
+          ∙ ap (λ (k : ℕ). lineAt s k (f .next)) (less-one (length l))
           ∙ g .found;
       first = λ r. ap (λ (k : ℕ). numbersAt s k at) (omega arith) ∙ f .first (suc (length l) + r) ∙ ap (λ (x : List ℕ). n ∷ x) (g .first r);
       left = g .left;
@@ -140,12 +142,14 @@ lines-read s (suc count) spaces first at words rest h p e =
     let all : suc count * w ≡ w + count * w = omega (arith, suc-mul count w) in
     let l = line-of s spaces at one (linesText count w others ++ rest) (length-take-le w words (omega (arith, all))) (small-take w p)
     (e ∙ append-assoc (lineText one) (linesText count w others) rest) in
-    let m = lines-read s count spaces (first + 1) (l .next) others rest (length-drop w words ∙ omega (arith, all)) (small-drop w p) (l .left) in
+    let m = lines-read s count spaces (first + 1) (l .next) others rest
+    (length-drop w words ∙ omega (arith, all)) (small-drop w p) (l .left) in
     record {
       next = m .next;
       found = lines-go-on s spaces first at (suc count) (l .value) (l .next) (omega arith) (l .found)
           ∙ ap (λ (k : ℕ). linesAt s k spaces (first + 1) (l .next)) (less-one count) ∙ m .found;
-      numbers = ap (λ (k : ℕ). numbersAt s k at) all ∙ l .first (count * w) ∙ ap (λ (x : List ℕ). one ++ x) (m .numbers) ∙ take-append-drop w words;
+      numbers = ap (λ (k : ℕ). numbersAt s k at) all ∙ l .first (count * w)
+          ∙ ap (λ (x : List ℕ). one ++ x) (m .numbers) ∙ take-append-drop w words;
       left = m .left;
       within = λ i. m .within (l .within);
     }

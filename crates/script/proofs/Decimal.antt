@@ -119,7 +119,9 @@ value-join v (x ∷ a) b = value-join (v * 10 + (x - 48)) a b
 
 one-digit : (n : ℕ) → n < 10 → Form n (decimal n)
 unfolding valueFrom
-one-digit n h = rw (decimal-small n h) (record { digit = more (is-digit n h) none; writes = omega arith; lead = λ p e. omega arith; some = omega arith })
+one-digit n h =
+    rw (decimal-small n h)
+    (record { digit = more (is-digit n h) none; writes = omega arith; lead = λ p e. omega arith; some = omega arith })
 
 one-more : (n : ℕ) → 10 ≤ n → Form (n / 10) (decimal (n / 10)) → Form n (decimal n)
 unfolding valueFrom
@@ -142,7 +144,8 @@ form-in (suc k) n h = ⊎-elim (λ p. one-digit n p) (λ q. one-more n q (form-i
 -- digits end at the first byte that is none
 digits-end : {l : List ℕ} (mark : ℕ) (rest : List ℕ) → Digits l → isDigit mark ≡ false → digits (l ++ (mark ∷ rest)) ≡ l
 digits-end mark rest none e = digits-stop mark rest e
-digits-end mark rest (more {b = b} {l = l} d p) e = digits-front b (l ++ (mark ∷ rest)) d ∙ ap (λ (x : List ℕ). b ∷ x) (digits-end mark rest p e)
+digits-end mark rest (more {b = b} {l = l} d p) e =
+    digits-front b (l ++ (mark ∷ rest)) d ∙ ap (λ (x : List ℕ). b ∷ x) (digits-end mark rest p e)
 
 or-true : (x : Bool) → (x or true) ≡ true
 or-true true = refl

@@ -2,7 +2,6 @@ pub mod Numbers
 pub mod Lines
 pub mod Pages
 pub mod Decimal
-pub mod Texts
 pub mod Accepted
 pub mod Accepts
 pub mod Room

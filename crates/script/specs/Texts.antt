@@ -1,9 +1,7 @@
--- The text of a script, from its numbers: what a file that is not bad looks like.
-use mathlib.Core.Path.{_≡_, refl}
+-- The text of a script, from its numbers: exactly these texts are read as scripts (proofs/Accepted.antt, proofs/Accepts.antt).
 use mathlib.Core.List.{List, [], _∷_, _++_}
-use Prim.Native.Nat.{ℕ, zero, suc, _<_}
-use native.Mathlib.Omega.{arith}
-use lib.ListN.{length, take, drop}
+use Prim.Native.Nat.{ℕ, zero, suc}
+use lib.ListN.{take, drop}
 use Rattle.script.specs.Printing.{decimal, line1}
 
 -- "one space between, each line ended by LF"
@@ -24,8 +22,3 @@ linesText (suc n) w words = lineText (take w words) ++ linesText n w (drop w wor
 unfoldable pub scriptText : ℕ → List ℕ → ℕ → List ℕ → List ℕ
 scriptText admissions words steps others =
     (line1 admissions ++ linesText admissions 2 words) ++ (line1 steps ++ linesText steps 5 others)
-
-pub rest-is-line : (l : List ℕ) → 0 < length l → lineRest l ≡ 32 ∷ lineText l
-unfolding lineRest lineText
-rest-is-line [] h = absurd (omega arith)
-rest-is-line (n ∷ l) h = refl
