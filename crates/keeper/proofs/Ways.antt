@@ -35,12 +35,13 @@ module _ (c : Control) (arena : List ℕ) (held : Bool) (meter : ℕ) where
   retire-open : recordNumber c meter ≡ 0
       → retireStep c arena held meter ≡ refuse (11 if held ∷ []) (refusedKept c) (retiredKept c arena meter (entry (c .dir) meter))
   unfolding retireStep
-  retire-open e = accepted-by-given (recordRefusals (c .dir) (c .mv .stage) meter) (refusedKept c) _ tt e
+  retire-open e = accepted-by-given (recordRefusals (c .dir) (c .mv .stage) meter) (refusedKept c) _ refl e
 
   pub retire-held : recordNumber c meter ≡ 0 → held ≡ true → retireStep c arena held meter ≡ refusedKept c 11
   retire-held e h = rw (retire-open e, h)
 
-  pub retire-done : recordNumber c meter ≡ 0 → held ≡ false → retireStep c arena held meter ≡ retiredKept c arena meter (entry (c .dir) meter)
+  pub retire-done : recordNumber c meter ≡ 0 → held ≡ false
+      → retireStep c arena held meter ≡ retiredKept c arena meter (entry (c .dir) meter)
   retire-done e h = rw (retire-open e, h)
 
 module _ (c : Control) (arena : List ℕ) (meter : ℕ) where
@@ -56,7 +57,7 @@ module _ (c : Control) (arena : List ℕ) (meter : ℕ) where
       ≡ refuse (13 if leb (entry (c .dir) meter) target ∷ 15 if eqb (c .begun) 4294967295 ∷ []) (refusedKept c)
       (begunKept c arena meter (entry (c .dir) meter) target)
   unfolding beginStep
-  begin-open e = accepted-by-given (recordRefusals (c .dir) (c .mv .stage) meter) (refusedKept c) _ tt e
+  begin-open e = accepted-by-given (recordRefusals (c .dir) (c .mv .stage) meter) (refusedKept c) _ refl e
 
   pub begin-nowhere : recordNumber c meter ≡ 0 → entry (c .dir) meter ≤ target → beginStep c arena meter ≡ refusedKept c 13
   begin-nowhere e h = rw (begin-open e, le-leb (entry (c .dir) meter) target h)
@@ -76,7 +77,7 @@ module _ {A : Type 0} (c : Control) (meter kind : ℕ) (f : ℕ → A) (o : A) w
 
   admit-open : newNumber c meter kind ≡ 0
       → refuse (admitRefusals c meter kind) f o ≡ refuse (12 if isNone (lowestRun (c .map) (cells kind)) ∷ []) f o
-  admit-open e = accepted-by-given (newRefusals (c .dir) meter kind) f _ tt e
+  admit-open e = accepted-by-given (newRefusals (c .dir) meter kind) f _ refl e
 
   pub admit-full : newNumber c meter kind ≡ 0 → lowestRun (c .map) (cells kind) ≡ none → refuse (admitRefusals c meter kind) f o ≡ f 12
   admit-full e h = rw (admit-open e, eq-eqb (lowestRun (c .map) (cells kind)) none h)
