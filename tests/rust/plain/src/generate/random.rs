@@ -25,7 +25,7 @@ impl Random {
 
     /// A number below the bound, which is above 0.
     pub fn below(&mut self, bound: u32) -> u32 {
-        (u64::from(self.word()) * u64::from(bound) >> 32) as u32
+        ((u64::from(self.word()) * u64::from(bound)) >> 32) as u32
     }
 
     /// True in so many cases of a hundred.

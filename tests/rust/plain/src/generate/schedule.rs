@@ -2,7 +2,7 @@
 //! that moves really begin, copy, commit and get called off.
 
 use super::Random;
-use crate::state::{Archive, Phase, Row, Stage, EMPTY, KINDS};
+use crate::state::{Archive, Header, Phase, Row, Stage, EMPTY, KINDS};
 use crate::step::Step;
 
 /// How often each sort of step is wanted, and how full the arena gets.
@@ -103,6 +103,9 @@ enum Mood {
     Shy,
     /// They load its flag only when all have passed the second barrier, and swap after the commit.
     Late,
+    /// The same, but one of them swaps at once, and the others wait on after the move is called
+    /// off: into the next one.
+    Stale,
     /// They go for it.
     Keen,
 }
@@ -232,9 +235,10 @@ impl Chooser<'_> {
 
     /// One mood for the whole of a move.
     fn mood(&self) -> Mood {
-        match self.archive.control.begun % 4 {
+        match self.archive.control.begun % 5 {
             0 => Mood::Shy,
             1 => Mood::Late,
+            2 => Mood::Stale,
             _ => Mood::Keen,
         }
     }
@@ -243,6 +247,14 @@ impl Chooser<'_> {
     fn is_before_compare(&self) -> bool {
         let stage = self.archive.control.moving.stage;
         stage == Stage::Second && self.archive.table.iter().all(|row| row.passed)
+    }
+
+    /// Says whether a client that waits rather goes on waiting.
+    fn may_wait_on(&self) -> bool {
+        match self.mood() {
+            Mood::Late | Mood::Stale => self.is_before_compare() || !self.is_moving(),
+            Mood::Shy | Mood::Keen => false,
+        }
     }
 
     /// The holds of a client that fit, by the cell they hold.
@@ -260,7 +272,7 @@ impl Chooser<'_> {
         let on_the_moved = self.holds(who, |held| held == from);
         let not_yet = match self.mood() {
             Mood::Shy => true,
-            Mood::Late => !self.is_before_compare(),
+            Mood::Late | Mood::Stale => !self.is_before_compare(),
             Mood::Keen => false,
         };
         let stage = self.archive.control.moving.stage;
@@ -283,12 +295,9 @@ impl Chooser<'_> {
 
     /// The next step of a client that reads and writes: GO where it is busy.
     fn access_by(&mut self, who: u32) -> Option<Step> {
-        let waits_for_the_commit = self.mood() == Mood::Late && self.is_before_compare();
         let phase = self.row(who).phase;
         match phase {
-            Phase::Waiting { .. } if waits_for_the_commit && self.random.percent(90) => {
-                return None
-            }
+            Phase::Waiting { .. } if self.may_wait_on() && self.random.percent(90) => return None,
             Phase::Resting => {}
             _ => return Some([who, 16, 0, 0, 0]),
         }
@@ -453,13 +462,36 @@ impl Chooser<'_> {
                     _ => [who, 16, 0, 0, 0],
                 });
             }
-        } else if self.is_before_compare() && self.random.percent(60) {
-            let resting = self.clients(|row| row.attached && row.phase == Phase::Resting);
-            if let Some(who) = self.random.one_of(&resting) {
-                return self.access_by(who);
+        } else if self.is_before_compare() && self.random.percent(75) {
+            if let Some(step) = self.meet_the_flag() {
+                return Some(step);
             }
         }
         Some([0, 4, 0, 0, 0])
+    }
+
+    /// A client's step just before the compare.
+    fn meet_the_flag(&mut self) -> Option<Step> {
+        let moving = self.archive.control.moving;
+        let from = u32::from(moving.from);
+        let is_flagged = Header::unpack(self.archive.header(from)).flag;
+        let waiting =
+            self.clients(|row| matches!(row.phase, Phase::Waiting { cell, .. } if cell == from));
+        if self.mood() == Mood::Stale && !is_flagged {
+            return None;
+        }
+        if self.mood() == Mood::Stale && waiting.len() >= 2 {
+            let who = self.random.one_of(&waiting)?;
+            return Some([who, 16, 0, 0, 0]);
+        }
+        let resting = self.clients(|row| row.attached && row.phase == Phase::Resting);
+        let who = self.random.one_of(&resting)?;
+        let holds = self.holds(who, |held| held == from);
+        match self.random.one_of(&holds) {
+            Some(hold) if self.mood() != Mood::Shy => Some(self.load(who, hold)),
+            None if self.mood() == Mood::Stale => Some([who, 12, moving.meter, 0, 0]),
+            _ => self.access_by(who),
+        }
     }
 
     // What is refused, mostly.
