@@ -224,6 +224,13 @@ fn r3_used_cells_are_exactly_those_of_the_blocks() {
             gives(3, at_stage(stage), |a| a.control.map.free(cell, 1));
         }
     }
+    // As many cells as before, but others.
+    for cell in [0, OTHER_CELL - 1, OTHER_CELL + 1, OTHER_CELL + 64] {
+        gives(3, at_stage(IDLE), |a| {
+            a.control.map.free(OTHER_CELL, 1);
+            a.control.map.take(cell, 1);
+        });
+    }
 }
 
 #[test]
