@@ -4,7 +4,9 @@
 use std::collections::BTreeMap;
 
 use plain::bytes::{audit_bytes, buffer, decode, SIZE};
-use plain::generate::{age, damage, fields, schedule, sound_buffer, spoil, text};
+use plain::generate::{
+    age, damage, fields, schedule, schedule_from, sound_buffer, spoil, text, Random, Weights,
+};
 use plain::{numbers, replay, Archive, Phase, Stage};
 
 const SEEDS: u64 = 40;
@@ -117,6 +119,33 @@ fn damage_may_be_done_again_and_again() {
             assert!(audit_bytes(&buf) >> 32 == 30);
         }
     }
+}
+
+/// A run checks soundness once and a step each time: they can only be equal if no step leads
+/// from a sound state to one that is not, not even from one that no run reaches.
+#[test]
+fn sound_states_that_no_run_reaches_stay_sound() {
+    let mut damaged = 0;
+    for seed in 0..300 {
+        let mut buf = sound_buffer(seed, 300);
+        for again in 0..60 {
+            let mut next = buf.clone();
+            damage(1_000 * seed + again, &mut next);
+            if audit_bytes(&next) == 30 << 32 {
+                buf = next;
+                damaged += 1;
+            }
+        }
+        let mut archive = decode(&buf).unwrap();
+        let mut before = archive.clone();
+        let mut random = Random::new(seed);
+        for step in schedule_from(&mut archive, &mut random, &Weights::CLOSE, 150) {
+            let _ = before.act(step);
+            assert_eq!(before.first_broken_rule(), 0, "seed {seed} after {step:?}");
+        }
+        assert!(before == archive);
+    }
+    assert!(damaged > 1_000, "{damaged}");
 }
 
 #[test]

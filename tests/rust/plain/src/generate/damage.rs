@@ -2,7 +2,7 @@
 
 use super::{schedule_from, Random, Weights};
 use crate::bytes::{
-    buffer, decode, ARENA, COUNTS, DIRECTORY, MAP, MOVE, ROW_BYTES, ROW_WORDS, SIZE, TABLE,
+    buffer, decode, ARENA, COUNTS, DIRECTORY, MAP, MOVE, ROW_BYTES, ROW_WORDS, TABLE,
 };
 use crate::state::{at, Archive, Stage, ARENA_WORDS, CELLS, METERS, ROWS};
 
@@ -209,9 +209,7 @@ pub fn sound_buffer(seed: u64, n: usize) -> Vec<u8> {
     if random.percent(25) {
         tighten(&mut archive);
     }
-    let buf = buffer(&archive);
-    debug_assert_eq!(buf.len(), SIZE);
-    buf
+    buffer(&archive)
 }
 
 /// Raises begun, and aborted with it, as if so many more moves had been called off.
