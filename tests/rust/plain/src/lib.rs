@@ -8,6 +8,7 @@ pub mod answer;
 pub mod bytes;
 pub mod generate;
 pub mod map;
+pub mod readings;
 pub mod replay;
 pub mod sound;
 pub mod state;
