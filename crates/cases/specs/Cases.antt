@@ -1,11 +1,11 @@
 -- 01, "On either side of each line": the P cases as a single table, and one claim about all its rows, which the checker computes.
 use mathlib.Core.Bool.{Bool, true, false}
 use mathlib.Core.List.{List, [], _∷_, _++_}
-use Prim.Native.Nat.{ℕ, zero, suc, _+_, _*_, _-_}
+use Prim.Native.Nat.{ℕ, zero, suc, _*_}
 use lib.Dec.{T, eqb}
-use lib.ListN.{take, drop}
+use lib.ListN.{take}
 use Rattle.model.specs.declared.Row.{Row}
-use Rattle.model.specs.Choice.{_and_, every, all, total}
+use Rattle.model.specs.Choice.{_and_, all, total}
 use Rattle.model.specs.Kinds.{kindTable, ofKind}
 use Rattle.model.specs.Records.{laid}
 use Rattle.model.specs.CellMap.{bit, withBit, used, put, putRun, countUsed, fill, freeCells, runAt, lowestFrom, lowestRun}

@@ -1,15 +1,15 @@
 -- Laws of one bit of a number, and of the number with one bit put to 0 or 1. Assumes nothing.
 use mathlib.Core.Path.{_≡_, refl, sym, ap, ap₂, _∙_, subst}
-use mathlib.Core.Logic.{_⊎_, inl, inr, ⊎-elim}
-use Prim.Native.Nat.{ℕ, zero, suc, _+_, _-_, _*_, _/_, _%_, _^_, _≤_, _<_, min, max, zero-le, suc-le-suc}
-use native.Mathlib.Nat.{mod-lt, add-mul, add-comm, add-assoc, pow-suc, mul-comm, mul-assoc, zero-mul, one-mul, zero-lt-suc, div-one, eq-or-lt-of-le, zero-div, not-suc-le-zero, div-eq-of-lt, lt-of-lt-of-le}
+use mathlib.Core.Logic.{⊎-elim}
+use Prim.Native.Nat.{ℕ, zero, suc, _+_, _-_, _*_, _/_, _%_, _^_, _≤_, _<_, min, max}
+use native.Mathlib.Nat.{mod-lt, add-mul, add-comm, pow-suc, mul-comm, mul-assoc, zero-mul, one-mul, div-one, zero-div, not-suc-le-zero, div-eq-of-lt, lt-of-lt-of-le}
 use native.Mathlib.Numerals.{add-one}
 use native.Mathlib.Omega.{arith}
 use lib.Arith.{digits-lt}
-use lib.Pow.{pow-pos, pow-mono, split, shr-shr, mod-mod-pow, field, low, high, shr-lt, pow-add, pow-lt, not-mod}
+use lib.Pow.{pow-pos, pow-mono, split, shr-shr, mod-mod-pow, field, low, high, shr-lt, pow-add, pow-lt}
 use lib.Count.{trailingZeros, under}
 use lib.Bits.{bitAnd, bitOr, and-shr, or-shr, and-step, or-step, and-lt, or-lt}
-use Rattle.model.proofs.Choice.{order, sides, same-or-not}
+use Rattle.model.proofs.Choice.{sides, same-or-not}
 use Rattle.model.specs.CellMap.{bit, withBit}
 
 pub bit-lt : (w k : ℕ) → bit w k < 2

@@ -2,7 +2,6 @@
 use mathlib.Core.Path.{_≡_, refl, sym}
 use mathlib.Core.Bool.{Bool, true, false}
 use mathlib.Core.Logic.{_⊎_, inl, inr, ⊎-elim}
-use mathlib.Core.List.{List, [], _∷_}
 use Prim.Native.Nat.{ℕ, zero, suc, _≤_, _<_, zero-le, suc-le-suc}
 use native.Mathlib.Nat.{eq-or-lt-of-le}
 use native.Mathlib.Omega.{arith}
@@ -16,6 +15,11 @@ clash b p q = let z : _≡_ {A = ℕ} 0 1 = cc in absurd (omega arith)
 pub by-test : {A : Type 0} (P : A → Type 0) (t : Bool) {x y : A} → (t ≡ true → P x) → (t ≡ false → P y) → P (pick t x y)
 by-test P true f g = f refl
 by-test P false f g = g refl
+
+-- what is made of a choice is made of both ways
+pub pick-map : {A B : Type 0} (g : A → B) (t : Bool) (x y : A) → g (pick t x y) ≡ pick t (g x) (g y)
+pick-map g true x y = refl
+pick-map g false x y = refl
 
 -- both parts of an `and`
 pub and-parts : (p q : Bool) → (p and q) ≡ true → (p ≡ true) × (q ≡ true)

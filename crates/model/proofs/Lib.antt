@@ -4,8 +4,15 @@ pub mod Bits
 pub mod CellMap
 pub mod Refusals
 pub mod Answered
+pub mod MapCount
+pub mod Records
+pub mod Counts
 pub mod Effects
 pub mod Says
-pub mod Stages
 pub mod Readings
+pub mod Covers
+pub mod Fill
+pub mod Wording
 pub mod Fresh
+pub mod Sizes
+pub mod Holds

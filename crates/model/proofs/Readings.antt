@@ -5,7 +5,7 @@ use mathlib.Core.Bool.{Bool, true, false, not}
 use mathlib.Core.List.{List, [], _∷_}
 use Prim.Native.Nat.{ℕ, zero, suc, _+_, _≤_, _<_}
 use native.Mathlib.Omega.{arith}
-use lib.Dec.{eqb}
+use lib.Dec.{T, eqb}
 use lib.ListN.{length, getD}
 use Rattle.model.specs.declared.Access.{Access}
 use Rattle.model.specs.declared.Phase.{Phase}
@@ -17,13 +17,22 @@ use Rattle.model.specs.Records.{none, header, plain, flagged, targetOf, 
 use Rattle.model.specs.CellMap.{used}
 use Rattle.model.specs.Rows.{holdOf, wordOf, busy, hold}
 use Rattle.model.specs.State.{Stage, idle, firstBarrier, copying, secondBarrier, thirdBarrier, stageOf, entry, State}
-use Rattle.model.specs.Rules.{isCell, isEarly, recordRight, R1, replicaRight, earlyRight, lateRight, R2, blocksOver, cellRight, R3, headerRight, R4, numbersRight, R5, detachedRight, holdRight, accessRight, phaseRight, passedRight, rowRight, R6, R7, flagUp, waits, waitsElsewhere, swapsRight, R8, firstFalse, firstBroken}
-use Rattle.model.proofs.Choice.{clash}
-use Rattle.model.proofs.Says.{Says, says-eq, says-lt, says-le, says-is, says-isnt, says-yes, says-as, says-not, says-and, says-or, says-when, says-every, All, Somewhere, says-all, says-none, says-any}
-use Rattle.model.proofs.Stages.{Early, Late, says-early, says-late}
+use Rattle.model.specs.Rules.{isCell, isEarly, isLate, recordRight, R1, replicaRight, earlyRight, lateRight, R2, blocksOver}
+use Rattle.model.specs.Rules.{cellRight, R3, headerRight, R4, numbersRight, R5, detachedRight, holdRight, accessRight, phaseRight}
+use Rattle.model.specs.Rules.{passedRight, rowRight, R6, R7, flagUp, waits, waitsElsewhere, swapsRight, R8, firstFalse, firstBroken}
+use Rattle.model.proofs.Choice.{clash, by-test}
+use Rattle.model.proofs.Says.{Says, says-eq, says-lt, says-le, says-is, says-isnt, says-holds, says-yes, says-as, says-not, says-and}
+use Rattle.model.proofs.Says.{says-or, says-when, says-every, All, Somewhere, says-all, says-none, says-any}
 
 abbrev pub Present : List ℕ → ℕ → Type 0
 Present dir m = entry dir m ≢ none
+
+-- "its first three stages"; "the third barrier"
+abbrev pub Early : Move → Type 0
+Early v = T (isEarly v)
+
+abbrev pub Late : Move → Type 0
+Late v = T (isLate v)
 
 says-cell : (c : ℕ) → Says (isCell c) (c ≢ none)
 says-cell c = says-not (says-eq c none)
@@ -68,8 +77,8 @@ pub record LateRight (dir : List ℕ) (v : Move) (arena : List ℕ) : Type 0 whe
 
 pub record MoveRight (dir : List ℕ) (v : Move) (arena : List ℕ) : Type 0 where
   pub stage : v .stage < 5
-  pub early : Early (stageOf (v .stage)) → EarlyRight dir v arena
-  pub late : Late (stageOf (v .stage)) → LateRight dir v arena
+  pub early : Early v → EarlyRight dir v arena
+  pub late : Late v → LateRight dir v arena
 
 pub says-early-right : (dir : List ℕ) (v : Move) (arena : List ℕ) → Says (earlyRight dir v arena) (EarlyRight dir v arena)
 unfolding earlyRight replicaRight
@@ -95,8 +104,8 @@ unfolding R2
 says-R2 dir v arena =
     says-as (λ k. record { stage = k .0; early = k .1 .0; late = k .1 .1 }) (λ r. (r .stage, (r .early, r .late)))
     (says-and (says-lt _ _)
-    (says-and (says-when (says-early (stageOf (v .stage))) (says-early-right dir v arena))
-    (says-when (says-late (stageOf (v .stage))) (says-late-right dir v arena))))
+    (says-and (says-when (says-holds (isEarly v)) (says-early-right dir v arena))
+    (says-when (says-holds (isLate v)) (says-late-right dir v arena))))
 
 -- R3 "Used cells are exactly those of present records and of the move's other block; none lies in two."
 abbrev pub CellsRight : List ℕ → List ℕ → Move → List ℕ → Type 0
@@ -110,25 +119,25 @@ says-R3 dir map v arena = says-every 1024 (cellRight dir map v arena) _ (λ x. s
 -- record at cell c
 pub data HeaderRight (v : Move) (m c h : ℕ) : Type 0 where
   own-header : h ≡ plain c → HeaderRight v m c h
-  flag-header : Early (stageOf (v .stage)) → m ≡ v .meter → h ≡ flagged c → HeaderRight v m c h
+  flag-header : Early v → m ≡ v .meter → h ≡ flagged c → HeaderRight v m c h
 
 -- .. "In the third barrier the old header is 2 × new."
 pub record HeadersRight (dir : List ℕ) (v : Move) (arena : List ℕ) : Type 0 where
   pub entries : (m : ℕ) → m < 256 → Present dir m → HeaderRight v m (entry dir m) (header arena (entry dir m))
-  pub old : Late (stageOf (v .stage)) → header arena (v .from) ≡ plain (v .target)
+  pub old : Late v → header arena (v .from) ≡ plain (v .target)
 
 pub says-header : (dir : List ℕ) (v : Move) (arena : List ℕ) (m : ℕ)
     → Says (headerRight dir v arena m) (Present dir m → HeaderRight v m (entry dir m) (header arena (entry dir m)))
 unfolding headerRight
 says-header dir v arena m =
     says-when (says-cell (entry dir m))
-    (says-as to from (says-or (says-eq _ _) (says-and (says-early (stageOf (v .stage))) (says-and (says-eq _ _) (says-eq _ _)))))
+    (says-as to from (says-or (says-eq _ _) (says-and (says-holds (isEarly v)) (says-and (says-eq _ _) (says-eq _ _)))))
   where
-    to : {c h : ℕ} → (h ≡ plain c) ⊎ (Early (stageOf (v .stage)) × ((m ≡ v .meter) × (h ≡ flagged c))) → HeaderRight v m c h
+    to : {c h : ℕ} → (h ≡ plain c) ⊎ (Early v × ((m ≡ v .meter) × (h ≡ flagged c))) → HeaderRight v m c h
     to (inl e) = own-header e
     to (inr k) = flag-header (k .0) (k .1 .0) (k .1 .1)
 
-    from : {c h : ℕ} → HeaderRight v m c h → (h ≡ plain c) ⊎ (Early (stageOf (v .stage)) × ((m ≡ v .meter) × (h ≡ flagged c)))
+    from : {c h : ℕ} → HeaderRight v m c h → (h ≡ plain c) ⊎ (Early v × ((m ≡ v .meter) × (h ≡ flagged c)))
     from (own-header e) = inl e
     from (flag-header l n e) = inr (l, (n, e))
 
@@ -136,7 +145,7 @@ pub says-R4 : (dir : List ℕ) (v : Move) (arena : List ℕ) → Says (R4 dir v 
 unfolding R4
 says-R4 dir v arena =
     says-as (λ k. record { entries = k .0; old = k .1 }) (λ r. (r .entries, r .old))
-    (says-and (says-every 256 (headerRight dir v arena) _ (says-header dir v arena)) (says-when (says-late (stageOf (v .stage))) (says-eq _ _)))
+    (says-and (says-every 256 (headerRight dir v arena) _ (says-header dir v arena)) (says-when (says-holds (isLate v)) (says-eq _ _)))
 
 -- R5 "Words copied is below the record's words while copying; at the other stages, and with no move in hand, the move's numbers are
 -- as said above." : n is the record's words
@@ -172,16 +181,16 @@ unfolding R5
 says-R5 v arena = says-numbers (stageOf (v .stage)) v (wordsAt arena (v .from))
 
 -- R6 "Unattached rows are as after DETACH." ..
-pub record Detached (r : Row) : Type 0 where
+pub record DetachedRight (r : Row) : Type 0 where
   pub passed : r .passed ≡ true
   pub holds : All (λ h. h ≡ none) (r .holds)
   pub rests : r .phase ≡ Resting
 
 -- .. "A hold is empty, a present record, or the old block." ..
 pub data HoldRight (dir : List ℕ) (v : Move) (h : ℕ) : Type 0 where
-  empty : h ≡ none → HoldRight dir v h
-  present : (m : ℕ) → m < length dir → entry dir m ≡ h → HoldRight dir v h
-  old : Late (stageOf (v .stage)) → h ≡ v .from → HoldRight dir v h
+  hold-empty : h ≡ none → HoldRight dir v h
+  hold-present : (m : ℕ) → m < length dir → entry dir m ≡ h → HoldRight dir v h
+  hold-old : Late v → h ≡ v .from → HoldRight dir v h
 
 -- .. "A busy row's hold is filled, its word within the payload, a read's value 0;" ..
 pub record AccessRight (arena : List ℕ) (r : Row) (x : Access) : Type 0 where
@@ -204,10 +213,10 @@ PhaseRight arena r (Waiting c x) = WaitingRight arena r c x
 
 -- .. "In the third barrier a passed row holds no old block."
 pub record RowRight (dir : List ℕ) (v : Move) (arena : List ℕ) (r : Row) : Type 0 where
-  pub detached : r .attached ≡ false → Detached r
+  pub detached : r .attached ≡ false → DetachedRight r
   pub holds : All (HoldRight dir v) (r .holds)
   pub phase : PhaseRight arena r (r .phase)
-  pub passed : Late (stageOf (v .stage)) → r .passed ≡ true → All (λ h. h ≢ v .from) (r .holds)
+  pub passed : Late v → r .passed ≡ true → All (λ h. h ≢ v .from) (r .holds)
 
 abbrev pub RowsRight : List ℕ → Move → List ℕ → List Row → Type 0
 RowsRight dir v arena table = All (RowRight dir v arena) table
@@ -220,7 +229,7 @@ says-rests p = record { holds = to p; test = λ e. rw e refl }
     to (Ready c x) e = clash false e refl
     to (Waiting c x) e = clash false e refl
 
-says-detached : (r : Row) → Says (detachedRight r) (r .attached ≡ false → Detached r)
+says-detached : (r : Row) → Says (detachedRight r) (r .attached ≡ false → DetachedRight r)
 unfolding detachedRight
 says-detached r =
     says-when (says-isnt (r .attached))
@@ -233,17 +242,17 @@ unfolding holdRight
 says-hold dir v h =
     says-as to from
     (says-or (says-eq h none)
-    (says-or (says-any (eqb h) (λ c. c ≡ h) (says-qe h) none dir) (says-and (says-late (stageOf (v .stage))) (says-eq h (v .from)))))
+    (says-or (says-any (eqb h) (λ c. c ≡ h) (says-qe h) none dir) (says-and (says-holds (isLate v)) (says-eq h (v .from)))))
   where
-    to : (h ≡ none) ⊎ (Somewhere (λ c. c ≡ h) none dir ⊎ (Late (stageOf (v .stage)) × (h ≡ v .from))) → HoldRight dir v h
-    to (inl e) = empty e
-    to (inr (inl k)) = present (k .at) (k .low) (k .holds)
-    to (inr (inr k)) = old (k .0) (k .1)
+    to : (h ≡ none) ⊎ (Somewhere (λ c. c ≡ h) none dir ⊎ (Late v × (h ≡ v .from))) → HoldRight dir v h
+    to (inl e) = hold-empty e
+    to (inr (inl k)) = hold-present (k .at) (k .low) (k .holds)
+    to (inr (inr k)) = hold-old (k .0) (k .1)
 
-    from : HoldRight dir v h → (h ≡ none) ⊎ (Somewhere (λ c. c ≡ h) none dir ⊎ (Late (stageOf (v .stage)) × (h ≡ v .from)))
-    from (empty e) = inl e
-    from (present m l e) = inr (inl (record { at = m; low = l; holds = e }))
-    from (old l e) = inr (inr (l, e))
+    from : HoldRight dir v h → (h ≡ none) ⊎ (Somewhere (λ c. c ≡ h) none dir ⊎ (Late v × (h ≡ v .from)))
+    from (hold-empty e) = inl e
+    from (hold-present m l e) = inr (inl (record { at = m; low = l; holds = e }))
+    from (hold-old l e) = inr (inr (l, e))
 
 pub says-access : (arena : List ℕ) (r : Row) (x : Access) → Says (accessRight arena r x) (AccessRight arena r x)
 unfolding accessRight
@@ -260,10 +269,10 @@ says-phase arena r (Waiting c x) =
     says-as (λ k. record { access = k .0; on = k .1 }) (λ p. (p .access, p .on)) (says-and (says-access arena r x) (says-eq _ _))
 
 says-passed : (v : Move) (r : Row)
-    → Says (passedRight v r) (Late (stageOf (v .stage)) → r .passed ≡ true → All (λ h. h ≢ v .from) (r .holds))
+    → Says (passedRight v r) (Late v → r .passed ≡ true → All (λ h. h ≢ v .from) (r .holds))
 unfolding passedRight
 says-passed v r =
-    says-when (says-late (stageOf (v .stage)))
+    says-when (says-holds (isLate v))
     (says-when (says-is (r .passed)) (says-none (eqb (v .from)) (λ h. h ≡ v .from) (says-qe (v .from)) (r .holds)))
 
 pub says-row : (dir : List ℕ) (v : Move) (arena : List ℕ) (r : Row) → Says (rowRight dir v arena r) (RowRight dir v arena r)
@@ -302,44 +311,76 @@ SwapsAt flag from begun r = r .swaps + owed flag from (r .phase) ≤ begun
 abbrev pub SwapsRight : Move → ℕ → List ℕ → List Row → Type 0
 SwapsRight v begun arena table = All (SwapsAt (flagUp v arena) (v .from) begun) table
 
--- what the rule's words come to: n is the row's swaps
-abbrev Words : Bool → ℕ → ℕ → ℕ → Phase → Type 0
-Words flag from n begun p =
-    (n ≤ begun)
-    × ((flag ≡ true → (n < begun) × (waitsElsewhere from p ≡ true → n + 1 < begun)) × (flag ≡ false → waits p ≡ true → n < begun))
+-- in the rule's own words: n is the row's swaps, p its phase
+pub record Owing (flag : Bool) (from begun n : ℕ) (p : Phase) : Type 0 where
+  pub most : n ≤ begun
+  pub flagged : flag ≡ true → n < begun
+  pub elsewhere : flag ≡ true → waitsElsewhere from p ≡ true → n + 1 < begun
+  pub waiting : flag ≡ false → waits p ≡ true → n < begun
 
-owes : (flag : Bool) (from n begun : ℕ) (p : Phase) → Words flag from n begun p → n + owed flag from p ≤ begun
-owes true from n begun Resting k = omega (arith, k .1 .0 refl .0)
-owes true from n begun (Ready c x) k = omega (arith, k .1 .0 refl .0)
-owes true from n begun (Waiting c x) k = by (eqb c from) (k .1 .0 refl .0) (k .1 .0 refl .1)
+pub owed-le : (flag : Bool) (from begun n : ℕ) (p : Phase) → Owing flag from begun n p → n + owed flag from p ≤ begun
+owed-le true from begun n Resting k = omega (arith, k .flagged refl)
+owed-le true from begun n (Ready c x) k = omega (arith, k .flagged refl)
+owed-le true from begun n (Waiting c x) k = by (eqb c from) (k .flagged refl) (k .elsewhere refl)
   where
     by : (t : Bool) → n < begun → (not t ≡ true → n + 1 < begun) → n + pick t 1 2 ≤ begun
     by true p q = omega arith
     by false p q = omega (arith, q refl)
-owes false from n begun Resting k = omega (arith, k .0)
-owes false from n begun (Ready c x) k = omega (arith, k .0)
-owes false from n begun (Waiting c x) k = omega (arith, k .1 .1 refl refl)
+owed-le false from begun n Resting k = omega (arith, k .most)
+owed-le false from begun n (Ready c x) k = omega (arith, k .most)
+owed-le false from begun n (Waiting c x) k = omega (arith, k .waiting refl refl)
 
-owed-words : (flag : Bool) (from n begun : ℕ) (p : Phase) → n + owed flag from p ≤ begun → Words flag from n begun p
-owed-words true from n begun Resting h = (omega arith, (λ _. (omega arith, λ z. clash false z refl), λ z. clash true refl z))
-owed-words true from n begun (Ready c x) h = (omega arith, (λ _. (omega arith, λ z. clash false z refl), λ z. clash true refl z))
-owed-words true from n begun (Waiting c x) h = by (eqb c from) h
+pub owed-words : (flag : Bool) (from begun n : ℕ) (p : Phase) → n + owed flag from p ≤ begun → Owing flag from begun n p
+owed-words flag from begun n p h =
+    record { most = omega arith; flagged = one-owed flag p h; elsewhere = two-owed flag p h; waiting = wait-owed flag p h }
   where
-    by : (t : Bool) → n + pick t 1 2 ≤ begun
-        → (n ≤ begun) × ((true ≡ true → (n < begun) × (not t ≡ true → n + 1 < begun)) × (true ≡ false → true ≡ true → n < begun))
-    by true h = (omega arith, (λ _. (omega arith, λ z. clash false z refl), λ z. clash true refl z))
-    by false h = (omega arith, (λ _. (omega arith, λ _. omega arith), λ z. clash true refl z))
-owed-words false from n begun Resting h = (omega arith, ((λ z. clash false z refl), λ _ z. clash false z refl))
-owed-words false from n begun (Ready c x) h = (omega arith, ((λ z. clash false z refl), λ _ z. clash false z refl))
-owed-words false from n begun (Waiting c x) h = (omega arith, ((λ z. clash false z refl), λ _ _. omega arith))
+    one-owed : (flag : Bool) (p : Phase) → n + owed flag from p ≤ begun → flag ≡ true → n < begun
+    one-owed true Resting h e = omega arith
+    one-owed true (Ready c x) h e = omega arith
+    one-owed true (Waiting c x) h e =
+        by-test (λ (k : ℕ). n + k ≤ begun → n < begun) (eqb c from) (λ _ h. omega arith) (λ _ h. omega arith) h
+    one-owed false p h e = clash false e refl
+
+    two-owed : (flag : Bool) (p : Phase) → n + owed flag from p ≤ begun → flag ≡ true → waitsElsewhere from p ≡ true → n + 1 < begun
+    two-owed true Resting h e w = clash false w refl
+    two-owed true (Ready c x) h e w = clash false w refl
+    two-owed true (Waiting c x) h e w = by (eqb c from) h w
+      where
+        by : (t : Bool) → n + pick t 1 2 ≤ begun → not t ≡ true → n + 1 < begun
+        by true h w = clash false w refl
+        by false h w = omega arith
+    two-owed false p h e w = clash false e refl
+
+    wait-owed : (flag : Bool) (p : Phase) → n + owed flag from p ≤ begun → flag ≡ false → waits p ≡ true → n < begun
+    wait-owed true p h e w = clash true refl e
+    wait-owed false Resting h e w = clash false w refl
+    wait-owed false (Ready c x) h e w = clash false w refl
+    wait-owed false (Waiting c x) h e w = omega arith
+
+-- a waiting row owes one at least
+pub waiting-owes : {from begun n : ℕ} {p : Phase} (flag : Bool) → Owing flag from begun n p → waits p ≡ true → n < begun
+waiting-owes true o w = o .flagged refl
+waiting-owes false o w = o .waiting refl w
 
 pub says-swaps : (flag : Bool) (from begun : ℕ) (r : Row) → Says (swapsRight flag from begun r) (SwapsAt flag from begun r)
 unfolding swapsRight
 says-swaps flag from begun r =
-    says-as (owes flag from (r .swaps) begun (r .phase)) (owed-words flag from (r .swaps) begun (r .phase))
+    says-as
+    (λ k. owed-le flag from begun (r .swaps) (r .phase)
+    (record { most = k .0; flagged = λ e. k .1 .0 e .0; elsewhere = λ e. k .1 .0 e .1; waiting = k .1 .1 }))
+    (λ h. let w = owed-words flag from begun (r .swaps) (r .phase) h in
+    (w .most, ((λ e. (w .flagged e, w .elsewhere e)), w .waiting)))
     (says-and (says-le _ _)
     (says-and (says-when (says-is flag) (says-and (says-lt _ _) (says-when (says-is (waitsElsewhere from (r .phase))) (says-lt _ _))))
     (says-when (says-isnt flag) (says-when (says-is (waits (r .phase))) (says-lt _ _)))))
+
+-- the moved record's header is flagged
+abbrev pub FlagUp : Move → List ℕ → Type 0
+FlagUp v arena = Early v × (header arena (v .from) ≡ flagged (v .from))
+
+pub says-flag : (v : Move) (arena : List ℕ) → Says (flagUp v arena) (FlagUp v arena)
+unfolding flagUp
+says-flag v arena = says-and (says-holds (isEarly v)) (says-eq _ _)
 
 pub says-R8 : (v : Move) (begun : ℕ) (arena : List ℕ) (table : List Row) → Says (R8 v begun arena table) (SwapsRight v begun arena table)
 unfolding R8

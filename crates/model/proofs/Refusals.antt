@@ -1,15 +1,15 @@
 -- Laws of refusing: the line that is given is the lowest that applies, and what is shown of each line and of the accepted outcome
 -- holds of whatever is given. Assumes nothing.
-use mathlib.Core.Path.{_≡_, refl, sym, subst}
+use mathlib.Core.Path.{_≡_, refl, sym, ap, _∙_, subst}
 use mathlib.Core.Bool.{Bool, true, false}
 use mathlib.Core.List.{List, [], _∷_}
 use Prim.Native.Nat.{ℕ, _≤_, _<_}
 use native.Mathlib.Omega.{arith}
 use lib.Dec.{T, eqb, ltb, leb}
 use borrow.Author.Tests.{eqb-true, leb-true, ltb-true}
-use Rattle.model.specs.Choice.{pick, _and_, _or_, all, any}
+use Rattle.model.specs.Choice.{pick, _and_, _or_}
 use Rattle.model.specs.Refusals.{Refusal, refuse}
-use Rattle.model.proofs.Choice.{by-test, clash}
+use Rattle.model.proofs.Choice.{by-test, clash, pick-map}
 
 -- no line applies
 abbrev pub Passed : List Refusal → Type 0
@@ -24,6 +24,14 @@ Each Q (g ∷ l) = Q (g .0) × Each Q l
 pub by-refusals : {A : Type 0} (P : A → Type 0) (l : List Refusal) (f : ℕ → A) (o : A) → Each (λ n. P (f n)) l → (Passed l → P o) → P (refuse l f o)
 by-refusals P [] f o r h = h tt
 by-refusals P (g ∷ l) f o r h = by-test P (g .1) (λ e. r .0) (λ e. by-refusals P l f o (r .1) (λ k. h (e, k)))
+
+-- what holds whatever number is given
+each-line : (Q : ℕ → Type 0) (l : List Refusal) → ((n : ℕ) → Q n) → Each Q l
+each-line Q [] h = tt
+each-line Q (g ∷ l) h = (h (g .0), each-line Q l h)
+
+pub unless-refused : {A : Type 0} (P : A → Type 0) (l : List Refusal) (f : ℕ → A) (o : A) → ((n : ℕ) → P (f n)) → (Passed l → P o) → P (refuse l f o)
+unless-refused P l f o r h = by-refusals P l f o (each-line (λ n. P (f n)) l r) h
 
 -- what holds of every number that a test lets pass holds of each line, where the test, computed, lets all its numbers pass
 abbrev pub numbers : (ℕ → Bool) → List Refusal → Bool
@@ -55,6 +63,31 @@ applies n (g ∷ l) = (eqb (g .0) n and g .1) or applies n l
 -- the number that is given, or 0
 abbrev pub given : List Refusal → ℕ
 given l = refuse l (λ n. n) 0
+
+-- what is made of an outcome is made of each way to it
+pub refuse-map : {A B : Type 0} (g : A → B) (l : List Refusal) (f : ℕ → A) (o : A) → g (refuse l f o) ≡ refuse l (λ n. g (f n)) (g o)
+refuse-map g [] f o = refl
+refuse-map g (r ∷ l) f o = pick-map g (r .1) (f (r .0)) (refuse l f o) ∙ ap (pick (r .1) (g (f (r .0)))) (refuse-map g l f o)
+
+-- what a step does whose number was found first: above 0 it is refused by it, at 0 it is accepted
+pub refused-by-given : {A : Type 0} (l : List Refusal) (f : ℕ → A) (o : A) → 0 < given l → refuse l f o ≡ f (given l)
+refused-by-given [] f o h = absurd (omega arith)
+refused-by-given (g ∷ l) f o h = by (g .1) h (refused-by-given l f o)
+  where
+    by : (b : Bool) → 0 < pick b (g .0) (given l) → (0 < given l → refuse l f o ≡ f (given l))
+        → pick b (f (g .0)) (refuse l f o) ≡ f (pick b (g .0) (given l))
+    by true p r = refl
+    by false p r = r p
+
+pub accepted-by-given : {A : Type 0} (l : List Refusal) (f : ℕ → A) (o : A) → T (numbers (ltb 0) l) → given l ≡ 0 → refuse l f o ≡ o
+accepted-by-given [] f o t e = refl
+accepted-by-given (g ∷ l) f o t e = by (ltb 0 (g .0)) refl t (g .1) e (accepted-by-given l f o)
+  where
+    by : (p : Bool) → ltb 0 (g .0) ≡ p → T (p and numbers (ltb 0) l) → (b : Bool) → pick b (g .0) (given l) ≡ 0
+        → (T (numbers (ltb 0) l) → given l ≡ 0 → refuse l f o ≡ o) → pick b (f (g .0)) (refuse l f o) ≡ o
+    by true p u true e r = absurd (omega (arith, ltb-true 0 (g .0) p))
+    by true p u false e r = r u e
+    by false p u b e r = absurd u
 
 floor : (l : List Refusal) (n m : ℕ) → T (atLeast n l) → applies m l ≡ true → n ≤ m
 floor [] n m t e = clash false e refl

@@ -7,7 +7,7 @@ use mathlib.Core.List.{List, [], _∷_}
 use Prim.Native.Nat.{ℕ, zero, suc, _+_, _≤_, _<_}
 use native.Mathlib.Omega.{arith}
 use native.Mathlib.Numerals.{add-one}
-use lib.Dec.{eqb, ltb, leb}
+use lib.Dec.{T, eqb, ltb, leb}
 use lib.ListN.{length, getD, replicate}
 use borrow.Author.Tests.{eqb-true, ltb-true, leb-true, eq-eqb, lt-ltb, le-leb, not-true}
 use Rattle.model.specs.Choice.{_and_, _or_, _⇒_, one, every, all, any}
@@ -37,6 +37,10 @@ says-yes = record { holds = λ _. tt; test = λ _. refl }
 
 pub says-no : Says false ⊥
 says-no = record { holds = λ e. clash false e refl; test = λ z. absurd z }
+
+pub says-holds : (b : Bool) → Says b (T b)
+says-holds true = says-yes
+says-holds false = says-no
 
 -- the same in other words
 pub says-as : {b : Bool} {P Q : Type 0} → (P → Q) → (Q → P) → Says b P → Says b Q
@@ -123,6 +127,16 @@ module _ {A : Type 0} where
   all-get P (x ∷ l) zero h p = h .0
   all-get P (x ∷ l) (suc i) h p = all-get P l i (h .1) p
 
+  -- an index for each element, and back
+  pub all-at : (P : A → Type 0) (d : A) (l : List A) → All P l → (i : ℕ) → i < length l → P (getD l i d)
+  all-at P d [] h i b = absurd (omega arith)
+  all-at P d (x ∷ l) h zero b = h .0
+  all-at P d (x ∷ l) h (suc i) b = all-at P d l (h .1) i (omega arith)
+
+  pub at-all : (P : A → Type 0) (d : A) (l : List A) → ((i : ℕ) → i < length l → P (getD l i d)) → All P l
+  at-all P d [] h = tt
+  at-all P d (x ∷ l) h = (h 0 (omega arith), at-all P d l (λ i b. h (suc i) (omega arith)))
+
   pub all-replicate : (P : A → Type 0) (n : ℕ) (x : A) → P x → All P (replicate n x)
   all-replicate P zero x p = tt
   all-replicate P (suc n) x p = (p, all-replicate P n x p)
@@ -184,28 +198,22 @@ abbrev pub atIndex : {A : Type 0} → (A → Bool) → List A → A → ℕ → 
 atIndex f l d i = f (getD l i d)
 
 module _ {A : Type 0} (f : A → Bool) (d : A) where
-  all-at : (l : List A) → All (λ x. f x ≡ true) l → (i : ℕ) → i < length l → f (getD l i d) ≡ true
-  all-at [] h i b = absurd (omega arith)
-  all-at (x ∷ l) h zero b = h .0
-  all-at (x ∷ l) h (suc i) b = all-at l (h .1) i (omega arith)
-
-  at-all : (l : List A) → ((i : ℕ) → i < length l → f (getD l i d) ≡ true) → All (λ x. f x ≡ true) l
-  at-all [] h = tt
-  at-all (x ∷ l) h = (h 0 (omega arith), at-all l (λ i b. h (suc i) (omega arith)))
+  abbrev Holds : A → Type 0
+  Holds x = f x ≡ true
 
   -- a list is tested as its indices are
   pub all-every : (l : List A) → all f l ≡ every (length l) (atIndex f l d)
   all-every l =
-      says-same (says-as (all-at l) (at-all l) (says-all f (λ x. f x ≡ true) (λ x. says-is (f x)) l))
-      (says-every (length l) (atIndex f l d) (λ i. f (getD l i d) ≡ true) (λ i. says-is (f (getD l i d))))
+      says-same (says-as (all-at Holds d l) (at-all Holds d l) (says-all f Holds (λ x. says-is (f x)) l))
+      (says-every (length l) (atIndex f l d) (λ i. Holds (getD l i d)) (λ i. says-is (f (getD l i d))))
 
   -- a search finds an element, or has passed all of them
   pub any-found : (l : List A) (i : ℕ) → i < length l → f (getD l i d) ≡ true → any f l ≡ true
-  any-found l i b e = says-any f (λ x. f x ≡ true) (λ x. says-is (f x)) d l .test (record { at = i; low = b; holds = e })
+  any-found l i b e = says-any f Holds (λ x. says-is (f x)) d l .test (record { at = i; low = b; holds = e })
 
   pub any-none : (l : List A) → ((i : ℕ) → i < length l → f (getD l i d) ≡ false) → any f l ≡ false
   any-none l h =
       refute (any f l)
       (λ e.
-      let k = says-any f (λ x. f x ≡ true) (λ x. says-is (f x)) d l .holds e in
+      let k = says-any f Holds (λ x. says-is (f x)) d l .holds e in
       clash (f (getD l (k .at) d)) (k .holds) (h (k .at) (k .low)))

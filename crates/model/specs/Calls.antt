@@ -1,5 +1,5 @@
 -- What the library's calls give: "Fresh, fill, audit and the run answer a number and a value too".
-use mathlib.Core.Bool.{Bool, true, false, not}
+use mathlib.Core.Bool.{Bool, not}
 use mathlib.Core.List.{List, [], _∷_}
 use Prim.Native.Nat.{ℕ, zero, suc, _+_, _*_, _/_, _%_}
 use lib.Dec.{eqb, leb}
@@ -11,7 +11,7 @@ use Rattle.model.specs.CellMap.{fill}
 use Rattle.model.specs.State.{State}
 use Rattle.model.specs.Answers.{Outcome, outcome, number, value}
 use Rattle.model.specs.Fresh.{fresh}
-use Rattle.model.specs.Refusals.{Refusal, _if_, refuse}
+use Rattle.model.specs.Refusals.{_if_, refuse}
 use Rattle.model.specs.Steps.{Step, step, act, refused}
 use Rattle.model.specs.Rules.{firstBroken}
 

@@ -1,11 +1,10 @@
 -- 01, "Arena, records, parties": "a map with one bit per cell, set when used", as sixteen words of 64 bits.
-use mathlib.Core.Path.{_≡_}
 use mathlib.Core.Bool.{Bool, true, false}
 use mathlib.Core.List.{List}
-use Prim.Native.Nat.{ℕ, zero, suc, _+_, _-_, _*_, _/_, _%_, _^_, _≤_, _<_}
+use Prim.Native.Nat.{ℕ, zero, suc, _+_, _-_, _*_, _/_, _%_, _^_}
 use lib.Dec.{eqb, leb}
-use lib.ListN.{length, getD, set}
-use Rattle.model.specs.Choice.{_and_, every}
+use lib.ListN.{getD, set}
+use Rattle.model.specs.Choice.{_and_}
 use Rattle.model.specs.Records.{none}
 
 -- bit k of a word, and the word with bit k put to b

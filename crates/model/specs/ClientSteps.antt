@@ -1,5 +1,5 @@
 -- 01, "The steps", clients: what each step does to the client's row, and the one word of the arena that it may change.
-use mathlib.Core.Bool.{Bool, true, false}
+use mathlib.Core.Bool.{true, false}
 use mathlib.Core.List.{List, map}
 use Prim.Native.Nat.{ℕ}
 use lib.Dec.{eqb}

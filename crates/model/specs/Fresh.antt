@@ -1,6 +1,5 @@
 -- 01: "Fresh zeroes the arena, empties the directory, map and counts, and leaves eight unattached rows: passed, resting, holds
 -- empty, swaps 0."
-use Prim.Native.Nat.{ℕ}
 use lib.ListN.{replicate}
 use Rattle.model.specs.declared.Control.{Control}
 use Rattle.model.specs.Records.{none}

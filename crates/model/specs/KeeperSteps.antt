@@ -1,5 +1,4 @@
 -- 01, "The steps", keeper: what each accepted step does to the state.
-use mathlib.Core.Bool.{Bool, true, false}
 use mathlib.Core.List.{List}
 use Prim.Native.Nat.{ℕ}
 use lib.Dec.{eqb}

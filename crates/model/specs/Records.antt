@@ -3,7 +3,7 @@ use mathlib.Core.Bool.{Bool}
 use mathlib.Core.List.{List, [], _∷_}
 use Prim.Native.Nat.{ℕ, zero, suc, _+_, _*_, _/_, _%_}
 use lib.Dec.{eqb}
-use lib.ListN.{getD, set, replicate}
+use lib.ListN.{getD, replicate}
 use Rattle.model.specs.Kinds.{cells, words, payload}
 
 -- "each absent (65535) or a start cell", "each empty (65535) or a cell"; also where a search finds nothing

@@ -1,7 +1,7 @@
 -- 01, "Numbers of refusal": "The lowest number that applies is given, and none is given otherwise."
-use mathlib.Core.Bool.{Bool, true, false, not, _||_}
+use mathlib.Core.Bool.{Bool, not}
 use mathlib.Core.List.{List, [], _∷_}
-use Prim.Native.Nat.{ℕ, _-_, _^_}
+use Prim.Native.Nat.{ℕ}
 use lib.Dec.{eqb, ltb, leb}
 use Rattle.model.specs.declared.Row.{Row}
 use Rattle.model.specs.declared.Control.{Control}

@@ -1,0 +1,4 @@
+pub mod Holds
+pub mod Headers
+pub mod Turns
+pub mod Acts

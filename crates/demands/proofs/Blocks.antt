@@ -1,0 +1,122 @@
+-- What the invariant says of the records, of the move's two blocks and of a held cell. Assumes nothing.
+use mathlib.Core.Path.{_≡_, sym, ap, _∙_}
+use mathlib.Core.Logic.{_≢_}
+use mathlib.Core.List.{List}
+use Prim.Native.Nat.{ℕ, _*_, _≤_, _<_}
+use native.Mathlib.Omega.{arith}
+use lib.Dec.{T}
+use Rattle.model.specs.declared.Move.{Move}
+use Rattle.model.specs.Kinds.{cells, words}
+use Rattle.model.specs.Records.{none, header, plain, flagged, label, kindOf}
+use Rattle.model.specs.State.{Stage, idle, firstBarrier, copying, secondBarrier, thirdBarrier, stageOf, entry}
+use Rattle.model.specs.Rules as rules
+use Rattle.model.proofs.ByKind.{Real, real}
+use Rattle.demands.proofs.Stages.{first, First, Early, not-both}
+use Rattle.demands.proofs.Lists.{getD-in}
+use Rattle.demands.proofs.Owners.{other}
+use Rattle.demands.proofs.Inv.{Flag, HoldOK, empty, here, was, HeadOK, own-head, flag-head, EntryOK, Sides, early, late, Count, Core}
+
+pub copied-le : (g : Stage) (z n : ℕ) → T (rules.early g) → Count g z n → n ≤ z
+copied-le idle z n l k = absurd l
+copied-le firstBarrier z n l k = omega arith
+copied-le copying z n l k = omega arith
+copied-le secondBarrier z n l k = omega arith
+copied-le thirdBarrier z n l k = absurd l
+
+first-none : (g : Stage) (z n : ℕ) → T (first g) → Count g z n → n ≡ 0
+first-none idle z n l k = absurd l
+first-none firstBarrier z n l k = k
+first-none copying z n l k = absurd l
+first-none secondBarrier z n l k = absurd l
+first-none thirdBarrier z n l k = absurd l
+
+-- a filled hold's cell: its header is plain and names the meter's entry t, or it is the moved record's, flagged
+pub data Cell (dir : List ℕ) (v : Move) (arena : List ℕ) (h m : ℕ) : Type 0 where
+  unflagged : (t : ℕ) → header arena h ≡ plain t → entry dir m ≡ t → t < 1024
+      → (Flag v (header arena (v .from)) → (t ≢ v .from) × (h ≢ v .from)) → Cell dir v arena h m
+  flagged-cell : header arena h ≡ flagged h → entry dir m ≡ h → h < 1024 → Early v → h ≡ v .from → Cell dir v arena h m
+
+module _ {X : Type 0} {dir map : List ℕ} {v : Move} {arena : List ℕ} {val : ℕ → ℕ → ℕ} {kind own : ℕ → ℕ}
+    (C : Core X dir map v arena val kind own) where
+  pub meter-lt : (m : ℕ) → entry dir m ≢ none → m < 256
+  meter-lt m n = omega (arith, getD-in dir m none n, C .entries256)
+
+  pub entry-range : (m : ℕ) → entry dir m ≢ none → entry dir m < 1024
+  entry-range m n = let E = C .entries m n in let z = real (kind m) (E .kinded) in omega (arith, E .range)
+
+  -- the owner of an entry's first cell
+  pub entry-own : (m : ℕ) → entry dir m ≢ none → own (entry dir m) ≡ m
+  entry-own m n = let E = C .entries m n in let z = real (kind m) (E .kinded) in E .owns (entry dir m) (omega arith) (omega arith)
+
+  -- the moved meter's record, at c, and the other block, at d
+  module _ {c d : ℕ} (b : Sides v c d) where
+    pub home-in : entry dir (v .meter) ≢ none
+    home-in z = omega (arith, C .sides b .home, C .sides b .inside)
+
+    pub home-lt : v .meter < 256
+    home-lt = meter-lt (v .meter) home-in
+
+    pub home-entry : EntryOK X v arena val kind own (v .meter) c
+    home-entry = rw (C .sides b .home) at (C .entries (v .meter) home-in)
+
+    pub home-real : Real (kind (v .meter))
+    home-real = real (kind (v .meter)) (home-entry .kinded)
+
+    pub side-lt : d < 1024
+    side-lt = let z = home-real in omega (arith, C .sides b .range)
+
+    pub side-own : own d ≡ other
+    side-own = let z = home-real in C .sides b .owns d (omega arith) (omega arith)
+
+    pub side-apart : (m : ℕ) → entry dir m ≢ d
+    side-apart m z =
+        let n : entry dir m ≢ none = λ y. omega (arith, side-lt) in
+        omega (arith, entry-own m n, ap own z, side-own, meter-lt m n)
+
+  -- no more words are copied than the record has
+  pub copied-fit : Early v → v .copied ≤ 8 * cells (kind (v .meter))
+  copied-fit l =
+      let z = home-real (early l) in
+      omega (arith, copied-le (stageOf (v .stage)) (words (kind (v .meter))) (v .copied) l (C .count))
+
+  pub first-uncopied : First v → v .copied ≡ 0
+  first-uncopied l = first-none (stageOf (v .stage)) (words (kind (v .meter))) (v .copied) l (C .count)
+
+  -- the kind in the label of the moved record, at its old cell
+  pub from-kind : {c d : ℕ} → Sides v c d → kindOf (label arena (v .from)) ≡ kind (v .meter)
+  from-kind (early l) = let E = home-entry (early l) in omega (arith, E .label, E .kinded)
+  from-kind (late l) = omega (arith, C .old-label l, home-entry (late l) .kinded)
+
+  -- a filled hold stands for a present meter, lies in the arena, and has its kind
+  pub held-in : {h m : ℕ} → HoldOK dir v h m → h ≢ none → entry dir m ≢ none
+  held-in (empty e) n = absurd (n e)
+  held-in (here r e) n = λ z. n (sym e ∙ z)
+  held-in (was l e f) n = rw f (home-in (late l))
+
+  pub held-lt : {h m : ℕ} → HoldOK dir v h m → h ≢ none → h < 1024
+  held-lt (empty e) n = absurd (n e)
+  held-lt (here r e) n = r
+  held-lt (was l e f) n = rw e (side-lt (late l))
+
+  pub held-kind : {h m : ℕ} → HoldOK dir v h m → h ≢ none → kindOf (label arena h) ≡ kind m
+  held-kind (empty e) n = absurd (n e)
+  held-kind {h} {m} (here r e) n =
+      let E : EntryOK X v arena val kind own m h = rw e at (C .entries m (rw e n)) in
+      omega (arith, E .label, E .kinded)
+  held-kind (was l e f) n = rw (e, f) (from-kind (late l))
+
+  pub cell : {h m : ℕ} → HoldOK dir v h m → h ≢ none → Cell dir v arena h m
+  cell (empty e) n = absurd (n e)
+  cell {h} {m} (here r e) n = from (E .head)
+    where
+      E : EntryOK X v arena val kind own m h
+      E = rw e at (C .entries m (rw e n))
+
+      from : HeadOK v m h (header arena h) → Cell dir v arena h m
+      from (own-head p) =
+          let apart : Flag v (header arena (v .from)) → h ≢ v .from = λ f z. omega (arith, f .1, ap (header arena) z) in
+          unflagged h p e r (λ f. (apart f, apart f))
+      from (flag-head l p o) = flagged-cell o e r l (sym e ∙ ap (entry dir) p ∙ C .sides (early l) .home)
+  cell {h} {m} (was l e f) n =
+      let S = C .sides (late l) in
+      unflagged (v .target) (rw e (C .old-head l)) (rw f (S .home)) (S .inside) (λ k. absurd (not-both v (k .0) l))

@@ -1,0 +1,254 @@
+-- The invariant gives R1 to R8 back. Assumes nothing.
+use mathlib.Core.Path.{_≡_, refl, sym, ap, _∙_, subst⁻¹}
+use mathlib.Core.Logic.{_≢_, _⊎_, inl, inr, ⊎-elim}
+use mathlib.Core.Bool.{true, false, not}
+use mathlib.Core.List.{List, [], _∷_}
+use Prim.Native.Nat.{ℕ, _+_, _≤_, _<_}
+use native.Mathlib.Omega.{arith}
+use lib.Dec.{T, eqb}
+use borrow.Author.Tests.{eqb-true, eqb-false}
+use lib.ListN.{getD, List·getD-eq-default}
+use Rattle.model.specs.declared.Access.{Access}
+use Rattle.model.specs.declared.Phase.{Phase}
+use Rattle.model.specs.declared.Row.{Row}
+use Rattle.model.specs.declared.Move.{Move}
+use Rattle.model.specs.Choice.{total}
+use Rattle.model.specs.Kinds.{cells, words}
+use Rattle.model.specs.Records.{none, header, targetOf, label, cellsAt, wordsAt}
+use Rattle.model.specs.Rows.{holdOf, hold, freshRow}
+use Rattle.model.specs.State.{Stage, idle, firstBarrier, copying, secondBarrier, thirdBarrier, stageOf, inHand, noMove, entry, State}
+use Rattle.model.specs.Rules.{early as early-stage, late as late-stage, covers, recordCovers, flagUp}
+use Rattle.model.proofs.Choice.{by-test, clash, order}
+use Rattle.model.proofs.Says.{says-eq, says-not, at-all}
+use Rattle.model.proofs.Readings.{RecordsRight, MoveRight, CellsRight, HeadersRight, HeaderRight, own-header, flag-header, NumbersAt}
+use Rattle.model.proofs.Readings.{HoldRight, hold-empty, hold-present, hold-old, AccessRight, PhaseRight, RowRight, SwapsAt, Owing, owed-le}
+use Rattle.model.proofs.Readings.{says-flag, Sound}
+use Rattle.model.proofs.Covers.{total-zero, total-one, covers-in, covers-out, record-in, record-out, otherOver, other-early, other-late}
+use Rattle.model.proofs.Covers.{other-by, blocks-are}
+use Rattle.model.proofs.Sizes.{Sizes, FourHolds}
+use Rattle.demands.specs.Log.{Client, Account}
+use Rattle.demands.proofs.Lists.{getD-in}
+use Rattle.demands.proofs.Owners.{other}
+use Rattle.demands.proofs.Inv.{Flag, HoldOK, empty, here, was, Place, at-entry, at-hold, Asked, PhaseOK, rests, ready, waits, RowOK}
+use Rattle.demands.proofs.Inv.{HeadOK, own-head, flag-head, Sides, early, late, Block, in-entry, in-other, Count, Core, Inv}
+use Rattle.demands.proofs.Blocks.{Cell, unflagged, flagged-cell, meter-lt, entry-range, home-in, home-entry, from-kind, held-kind}
+use Rattle.demands.proofs.Blocks.{cell}
+
+-- a number that is no stage counts as none in hand
+stage-lt : (v : Move) → (T (not (inHand (stageOf (v .stage)))) → v ≡ noMove) → v .stage < 5
+stage-lt v f =
+    ⊎-elim (λ h. h) (λ (h : 5 ≤ v .stage). absurd (omega (arith, ap (λ (w : Move). w .stage) (f (none-in-hand h))))) (order (v .stage) 5)
+  where
+    none-in-hand : 5 ≤ v .stage → T (not (inHand (stageOf (v .stage))))
+    none-in-hand h =
+        subst⁻¹ (λ (g : Stage). T (not (inHand g)))
+        (List·getD-eq-default (idle ∷ firstBarrier ∷ copying ∷ secondBarrier ∷ thirdBarrier ∷ []) idle h) tt
+
+-- R5, with the moved record's words read from its old block
+numbers-of : (v : Move) (z z′ : ℕ) (g : Stage) → (T (early-stage g) → z ≡ z′) → (T (late-stage g) → z ≡ z′)
+    → (T (not (inHand g)) → v ≡ noMove) → Count g z′ (v .copied) → NumbersAt g v z
+numbers-of v z z′ idle a b n c =
+    let e = n tt in
+    record {
+      meter = ap (λ (w : Move). w .meter) e;
+      from = ap (λ (w : Move). w .from) e;
+      target = ap (λ (w : Move). w .target) e;
+      copied = ap (λ (w : Move). w .copied) e;
+    }
+numbers-of v z z′ firstBarrier a b n c = c
+numbers-of v z z′ copying a b n c = let e = a tt in omega arith
+numbers-of v z z′ secondBarrier a b n c = c ∙ sym (a tt)
+numbers-of v z z′ thirdBarrier a b n c = c ∙ sym (b tt)
+
+module _ {X : Type 0} (s : State) (g : Account) (I : Inv X s g) where
+  abbrev dir : List ℕ
+  dir = s .control .dir
+
+  abbrev v : Move
+  v = s .control .mv
+
+  abbrev arena : List ℕ
+  arena = s .arena
+
+  abbrev C : Core X dir (s .control .map) v arena (g .lastWritten) (g .kind) (I .own)
+  C = I .core
+
+  entry-cells : (m : ℕ) → entry dir m ≢ none → cellsAt arena (entry dir m) ≡ cells (g .kind m)
+  entry-cells m n = ap cells (held-kind C {h = entry dir m} {m = m} (here (entry-range C m n) refl) n)
+
+  from-cells : {c d : ℕ} → Sides v c d → cellsAt arena (v .from) ≡ cells (g .kind (v .meter))
+  from-cells b = ap cells (from-kind C b)
+
+  from-words : {c d : ℕ} → Sides v c d → wordsAt arena (v .from) ≡ words (g .kind (v .meter))
+  from-words b = ap words (from-kind C b)
+
+  rule1 : RecordsRight dir arena
+  rule1 m b n =
+      let E = C .entries m n in
+      let k = entry-cells m n in
+      record { meter = omega (arith, E .label, E .kinded); within = omega (arith, E .range) }
+
+  rule2 : MoveRight dir v arena
+  rule2 =
+      record {
+        stage = stage-lt v (C .idle);
+        early = λ l.
+            let k = from-cells (early l) in
+            record {
+              present = home-in C (early l);
+              old = C .sides (early l) .home;
+              within = omega (arith, C .sides (early l) .range);
+              replica-header = C .replica-head l;
+              replica-label = λ p. C .replica-label l p ∙ sym (home-entry C (early l) .label);
+            };
+        late = λ l.
+            let k = from-cells (late l) in
+            record {
+              present = home-in C (late l);
+              new = C .sides (late l) .home;
+              same-label = C .old-label l ∙ sym (home-entry C (late l) .label);
+              within = omega (arith, C .sides (late l) .range);
+            };
+      }
+
+  -- an entry, or the other block, that does not own a cell does not cover it
+  entry-off : (x m : ℕ) → I .own x ≢ m → recordCovers arena x (entry dir m) ≡ 0
+  entry-off x m ne =
+      record-out arena x (entry dir m)
+      (λ o. let k = entry-cells m (o .present) in ne (C .entries m (o .present) .owns x (o .low) (omega (arith, o .high))))
+
+  other-off : (x : ℕ) → I .own x ≢ other → otherOver v arena x ≡ 0
+  other-off x ne = other-by v arena x (λ (n : ℕ). n ≡ 0) (λ l. off (early l)) (λ l. off (late l)) (λ _ _. refl)
+    where
+      off : {c d : ℕ} → Sides v c d → covers d (cellsAt arena (v .from)) x ≡ 0
+      off {c} {d} b =
+          let k = from-cells b in
+          covers-out d (cellsAt arena (v .from)) x (λ p q. ne (C .sides b .owns x p (omega arith)))
+
+  other-on : (x : ℕ) {c d : ℕ} → Sides v c d → d ≤ x → x < d + cells (g .kind (v .meter)) → otherOver v arena x ≡ 1
+  other-on x (early l) p q =
+      let k = from-cells (early l) in other-early v arena x l ∙ covers-in (v .target) (cellsAt arena (v .from)) x p (omega arith)
+  other-on x (late l) p q =
+      let k = from-cells (late l) in other-late v arena x l ∙ covers-in (v .from) (cellsAt arena (v .from)) x p (omega arith)
+
+  -- no entry covers a cell that no meter owns
+  entries-off : (x : ℕ) → ((m : ℕ) → m < 256 → I .own x ≢ m) → total (recordCovers arena x) dir ≡ 0
+  entries-off x f = total-zero (recordCovers arena x) none dir (λ m b. entry-off x m (f m (omega (arith, C .entries256))))
+
+  owned-once : (x : ℕ) {i : ℕ} → I .own x ≡ i → Block dir v (g .kind) x i → total (recordCovers arena x) dir + otherOver v arena x ≡ 1
+  owned-once x {i} e (in-entry n p q) =
+      let k = entry-cells i n in
+      let b = meter-lt C i n in
+      let only =
+      total-one (recordCovers arena x) none dir i (omega (arith, C .entries256)) (λ j _ ne. entry-off x j (λ z. ne (sym z ∙ e))) in
+      let here = record-in arena x (entry dir i) (record { present = n; low = p; high = omega arith }) in
+      omega (arith, only, here, other-off x (λ z. omega arith))
+  owned-once x e (in-other b o p q) = omega (arith, entries-off x (λ m h z. omega arith), other-on x b p q)
+
+  rule3 : CellsRight dir (s .control .map) v arena
+  rule3 x b = blocks-are dir v arena x ∙ by-test At (eqb (I .own x) none) nobody somebody ∙ sym (C .mapped x b)
+    where
+      At : ℕ → Type 0
+      At n = total (recordCovers arena x) dir + otherOver v arena x ≡ n
+
+      nobody : eqb (I .own x) none ≡ true → At 0
+      nobody t =
+          let e = eqb-true (I .own x) none t in
+          omega (arith, entries-off x (λ m h z. omega arith), other-off x (λ z. omega arith))
+
+      somebody : eqb (I .own x) none ≡ false → At 1
+      somebody t = owned-once x refl (C .owned x (eqb-false (I .own x) none t))
+
+  rule4 : HeadersRight dir v arena
+  rule4 = record { entries = λ m b n. from (C .entries m n .head); old = C .old-head }
+    where
+      from : {m c h : ℕ} → HeadOK v m c h → HeaderRight v m c h
+      from (own-head e) = own-header e
+      from (flag-head l n e) = flag-header l n e
+
+  rule5 : NumbersAt (stageOf (v .stage)) v (wordsAt arena (v .from))
+  rule5 =
+      numbers-of v (wordsAt arena (v .from)) (words (g .kind (v .meter))) (stageOf (v .stage)) (λ l. from-words (early l))
+      (λ l. from-words (late l)) (C .idle) (C .count)
+
+  -- the rows
+  abbrev RowOf : Row → Client → Type 0
+  RowOf r q = RowOK X dir v (g .kind) (header arena (v .from)) (s .control .begun) r q
+
+  hold-rule : {h m : ℕ} → HoldOK dir v h m → HoldRight dir v h
+  hold-rule (empty e) = hold-empty e
+  hold-rule {h} {m} (here b e) = hold-present m (getD-in dir m none (λ z. omega arith)) e
+  hold-rule (was l e f) = hold-old l e
+
+  place-rule : {h m c : ℕ} → HoldOK dir v h m → h ≢ none → Place dir h m c → (c ≡ h) ⊎ (c ≡ targetOf (header arena h))
+  place-rule k n (at-hold e) = inl (sym e)
+  place-rule {h} {m} {c} k n (at-entry e) = by (cell C k n)
+    where
+      by : Cell dir v arena h m → (c ≡ h) ⊎ (c ≡ targetOf (header arena h))
+      by (unflagged t p q _ _) = inr (omega arith)
+      by (flagged-cell p q _ _ _) = inl (sym e ∙ q)
+
+  row-rule : (r : Row) (q : Client) → RowOf r q → RowRight dir v arena r
+  row-rule r q R =
+      record {
+        detached = λ e.
+            let D = R .detached e in
+            record { passed = D .passed; holds = at-all _ none (r .holds) (λ i _. D .empty i); rests = D .rests };
+        holds = at-all (HoldRight dir v) none (r .holds) (λ i _. hold-rule (R .holds i));
+        phase = by-phase (R .phase);
+        passed = λ l p. at-all _ none (r .holds) (λ i _. R .passed l p i);
+      }
+    where
+      access : (x : Access) → Asked (g .kind) (hold r (holdOf x)) q x → AccessRight arena r x
+      access x A = record { filled = A .filled; word = rw (held-kind C (R .holds (holdOf x)) (A .filled)) (A .fits) }
+
+      by-phase : {p : Phase} → PhaseOK X dir v (g .kind) (header arena (v .from)) (s .control .begun) r q p → PhaseRight arena r p
+      by-phase (rests e) = tt
+      by-phase (ready {c} {x} W) =
+          record { access = access x (W .asked); at = place-rule (R .holds (holdOf x)) (W .asked .filled) (W .place) }
+      by-phase (waits {c} {x} W) = record { access = access x (W .asked); on = W .held }
+
+  swaps-rule : (r : Row) (q : Client) → RowOf r q → SwapsAt (flagUp v arena) (v .from) (s .control .begun) r
+  swaps-rule r q R = owed-le (flagUp v arena) (v .from) (s .control .begun) (r .swaps) (r .phase) (by-phase (R .phase))
+    where
+      flag : flagUp v arena ≡ true → Flag v (header arena (v .from))
+      flag e = says-flag v arena .holds e
+
+      by-phase : {p : Phase} → PhaseOK X dir v (g .kind) (header arena (v .from)) (s .control .begun) r q p
+          → Owing (flagUp v arena) (v .from) (s .control .begun) (r .swaps) p
+      by-phase (rests _) =
+          record { most = R .le; flagged = λ e. R .lt (flag e); elsewhere = λ _ w. clash false w refl; waiting = λ _ w. clash false w refl }
+      by-phase (ready _) =
+          record { most = R .le; flagged = λ e. R .lt (flag e); elsewhere = λ _ w. clash false w refl; waiting = λ _ w. clash false w refl }
+      by-phase (waits {c} W) =
+          record {
+            most = R .le;
+            flagged = λ e. R .lt (flag e);
+            elsewhere = λ e w. omega (arith, W .elsewhere (flag e) (says-not (says-eq c (v .from)) .holds w));
+            waiting = λ _ _. W .owes;
+          }
+
+  pub sound-of-inv : Sound s
+  sound-of-inv =
+      record {
+        r1 = rule1;
+        r2 = rule2;
+        r3 = rule3;
+        r4 = rule4;
+        r5 = rule5;
+        r6 = at-all (RowRight dir v arena) freshRow (s .table) (λ i _. row-rule (getD (s .table) i freshRow) (g .clients i) (I .rows i));
+        r7 = I .r7;
+        r8 = at-all (SwapsAt (flagUp v arena) (v .from) (s .control .begun)) freshRow (s .table)
+            (λ i _. swaps-rule (getD (s .table) i freshRow) (g .clients i) (I .rows i));
+      }
+
+  pub sizes-of-inv : Sizes s
+  sizes-of-inv =
+      record {
+        entries = C .entries256;
+        map = C .is-map;
+        begun = I .small;
+        arena = C .words8192;
+        rows = I .eight;
+        holds = at-all FourHolds freshRow (s .table) (λ i _. I .rows i .four);
+      }

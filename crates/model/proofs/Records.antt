@@ -1,0 +1,83 @@
+-- Laws of words laid over the arena: a store before or after them is one word more; what stands at each place; a new record's words.
+-- Assumes nothing.
+use mathlib.Core.Path.{_≡_, refl, ap, _∙_}
+use mathlib.Core.List.{List, [], _∷_, _++_}
+use Prim.Native.Nat.{ℕ, zero, suc, _+_, _*_, _≤_, _<_}
+use native.Mathlib.Nat.{zero-add, suc-add}
+use native.Mathlib.Omega.{arith}
+use lib.ListN.{length, getD, set, replicate, length-replicate, replicate-append-replicate}
+use Rattle.model.specs.Kinds.{cells, payload}
+use Rattle.model.specs.Records.{newRecord, laid}
+use Rattle.model.proofs.ByKind.{Real, real}
+
+-- no word laid
+pub laid-none : (a : List ℕ) (i : ℕ) → laid a i [] ≡ a
+unfolding laid
+laid-none [] i = refl
+laid-none (x ∷ a) zero = refl
+laid-none (x ∷ a) (suc i) = ap (λ (l : List ℕ). x ∷ l) (laid-none a i)
+
+-- the first word is a store before the others are laid
+pub laid-first : (a : List ℕ) (i w : ℕ) (ws : List ℕ) → laid a i (w ∷ ws) ≡ laid (set a i w) (suc i) ws
+unfolding laid
+laid-first [] i w ws = refl
+laid-first (x ∷ a) zero w ws = refl
+laid-first (x ∷ a) (suc i) w ws = ap (λ (l : List ℕ). x ∷ l) (laid-first a i w ws)
+
+-- the last word is a store after the others are laid
+pub laid-last : (a : List ℕ) (i : ℕ) (ws : List ℕ) (w : ℕ) → laid a i (ws ++ (w ∷ [])) ≡ set (laid a i ws) (i + length ws) w
+unfolding laid
+laid-last [] i ws w = refl
+laid-last (x ∷ a) zero [] w = ap (λ (l : List ℕ). w ∷ l) (laid-none a zero)
+laid-last (x ∷ a) zero (y ∷ ws) w = rw zero-add (ap (λ (l : List ℕ). y ∷ l) (rw zero-add at (laid-last a zero ws w)))
+laid-last (x ∷ a) (suc i) ws w = rw suc-add (ap (λ (l : List ℕ). x ∷ l) (laid-last a i ws w))
+
+pub length-laid : (a : List ℕ) (i : ℕ) (ws : List ℕ) → length (laid a i ws) ≡ length a
+unfolding laid
+length-laid [] i ws = refl
+length-laid (x ∷ a) zero [] = refl
+length-laid (x ∷ a) zero (w ∷ ws) = ap suc (length-laid a zero ws)
+length-laid (x ∷ a) (suc i) ws = ap suc (length-laid a i ws)
+
+-- the same for a run of equal words, as a loop's counter has it
+pub laid-run-more : (a : List ℕ) (i n w : ℕ) → laid a i (replicate (n + 1) w) ≡ set (laid a i (replicate n w)) (i + n) w
+laid-run-more a i n w =
+    rw (← replicate-append-replicate n 1 w) (laid-last a i (replicate n w) w)
+    ∙ ap (λ (k : ℕ). set (laid a i (replicate n w)) (i + k) w) (length-replicate n w)
+
+-- place j, where word k of the new words lies
+pub laid-in : (arena : List ℕ) (i : ℕ) (ws : List ℕ) (j k : ℕ) → j ≡ i + k → k < length ws → j < length arena → getD (laid arena i ws) j 0 ≡ getD ws k 0
+unfolding laid
+laid-in [] i ws j k e p q = absurd (omega arith)
+laid-in (x ∷ arena) zero [] j k e p q = absurd (omega arith)
+laid-in (x ∷ arena) zero (w ∷ ws) zero zero e p q = refl
+laid-in (x ∷ arena) zero (w ∷ ws) zero (suc k) e p q = absurd (omega arith)
+laid-in (x ∷ arena) zero (w ∷ ws) (suc j) zero e p q = absurd (omega arith)
+laid-in (x ∷ arena) zero (w ∷ ws) (suc j) (suc k) e p q = laid-in arena zero ws j k (omega arith) (omega arith) (omega arith)
+laid-in (x ∷ arena) (suc i) ws zero k e p q = absurd (omega arith)
+laid-in (x ∷ arena) (suc i) ws (suc j) k e p q = laid-in arena i ws j k (omega arith) p (omega arith)
+
+-- outside the new words nothing changes
+pub laid-out : (arena : List ℕ) (i : ℕ) (ws : List ℕ) (j : ℕ) → (i ≤ j → j < i + length ws → ⊥) → getD (laid arena i ws) j 0 ≡ getD arena j 0
+unfolding laid
+laid-out [] i ws j n = refl
+laid-out (x ∷ arena) zero [] j n = refl
+laid-out (x ∷ arena) zero (w ∷ ws) zero n = absurd (n (omega arith) (omega arith))
+laid-out (x ∷ arena) zero (w ∷ ws) (suc j) n = laid-out arena zero ws j (λ p q. n (omega arith) (omega arith))
+laid-out (x ∷ arena) (suc i) ws zero n = refl
+laid-out (x ∷ arena) (suc i) ws (suc j) n = laid-out arena i ws j (λ p q. n (omega arith) (omega arith))
+
+-- a new record is as long as its kind says, and its payload is zero
+pub new-length : (c m k : ℕ) → k < 4 → length (newRecord c m k) ≡ 8 * cells k
+new-length c m k h =
+    let z : length {A = ℕ} (replicate (payload k) 0) ≡ payload k = length-replicate (payload k) 0 in
+    let r : Real k = real k h in
+    omega arith
+
+zeros : (n i : ℕ) → _≡_ {A = ℕ} (getD (replicate n 0) i 0) 0
+zeros zero i = refl
+zeros (suc n) zero = refl
+zeros (suc n) (suc i) = zeros n i
+
+pub new-zero : (c m k w : ℕ) → getD (newRecord c m k) (2 + w) 0 ≡ 0
+new-zero c m k w = let e : 2 + w ≡ suc (suc w) = omega arith in rw e (zeros (payload k) w)

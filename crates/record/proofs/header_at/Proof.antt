@@ -1,0 +1,16 @@
+-- `record::header_at` meets its contract, by those of `place` and `load`. Assumes nothing.
+use borrow.Author.Needs.{needs}
+use Rattle.record.proofs.header_at.Statement.{statement}
+use Rattle.record.proofs.header_at.Tie as tie
+
+place-requires : tie.Need-place-requires
+place-requires c κs = search needs
+
+load-requires : tie.Need-load-requires
+load-requires c κs = search needs
+
+returns : tie.Need-returns
+returns c = simp (c .load .ensures, c .before .place .ensures)
+
+pub header-at-spec : {M : Type 1} → statement M
+header-at-spec = tie.close (tie.spec place-requires load-requires returns)
