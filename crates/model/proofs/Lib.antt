@@ -13,3 +13,5 @@ pub mod Covers
 pub mod Wording
 pub mod Fresh
 pub mod Sizes
+pub mod Records
+pub mod Holds
