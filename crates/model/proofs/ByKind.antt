@@ -31,3 +31,16 @@ real (suc zero) h = record { some = omega arith; cells-le = omega arith; words-e
 real (suc (suc zero)) h = record { some = omega arith; cells-le = omega arith; words-eight = refl; payload-less = refl }
 real (suc (suc (suc zero))) h = record { some = omega arith; cells-le = omega arith; words-eight = refl; payload-less = refl }
 real (suc (suc (suc (suc k)))) h = absurd (omega arith)
+
+-- a record has at most eight cells
+pub cells-at-most : (k : ℕ) → cells k ≤ 8
+unfolding ofKind kindTable
+cells-at-most zero = omega arith
+cells-at-most (suc zero) = omega arith
+cells-at-most (suc (suc zero)) = omega arith
+cells-at-most (suc (suc (suc zero))) = omega arith
+cells-at-most (suc (suc (suc (suc k)))) = omega arith
+
+-- so a run of them is shorter than a word of the map
+pub cells-short : (k : ℕ) → cells k < 64
+cells-short k = omega (arith, cells-at-most k)

@@ -5,11 +5,11 @@ use mathlib.Core.Bool.{Bool, true, false}
 use mathlib.Core.List.{List}
 use mathlib.Core.Logic.{_⊎_, inl, inr, ⊎-elim}
 use Prim.Native.Nat.{ℕ, zero, suc, _+_, _-_, _*_, _/_, _%_, _^_, _≤_, _<_}
-use native.Mathlib.Nat.{not-suc-le-zero, zero-div}
+use native.Mathlib.Nat.{zero-div}
 use native.Mathlib.Numerals.{add-one}
 use native.Mathlib.Omega.{arith}
 use lib.Dec.{lit<, eqb, leb}
-use borrow.Author.Tests.{eq-eqb, eqb-true, eqb-false, le-leb, leb-true, leb-false}
+use borrow.Author.Tests.{eq-eqb, eqb-true, le-leb, leb-true}
 use lib.ListN.{length, getD, set, replicate, length-set}
 use lib.Seq.{getD-set-same, getD-set-other, set-out, ext-getD}
 use Rattle.model.specs.Choice.{pick, _and_}
@@ -76,22 +76,25 @@ used-put-other m c b j hb ne = ⊎-elim same other (same-or-not (j / 64) (c / 64
     other : (j / 64 ≡ c / 64 → ⊥) → used (put m c b) j ≡ used m j
     other ne = ap (λ (x : ℕ). bit x (j % 64)) (getD-set-other m (c / 64) (j / 64) (withBit (getD m (c / 64) 0) (c % 64) b) 0 ne)
 
--- a run: still a map; the cells of the run; the cells outside it
+-- a run: still a map; the cells of the run that lie in the map; the cells outside it
 pub run-map : (m : List ℕ) (c n b : ℕ) → IsMap m → b < 2 → IsMap (putRun m c n b)
 unfolding putRun
 run-map m c zero b h hb = h
 run-map m c (suc n) b h hb = put-map (putRun m c n b) (c + n) b (run-map m c n b h hb) hb
 
-pub used-run : (m : List ℕ) (c n b i : ℕ) → IsMap m → c + n ≤ 1024 → b < 2 → i < n → used (putRun m c n b) (c + i) ≡ b
+pub used-run-in : (m : List ℕ) (c n b x : ℕ) → IsMap m → b < 2 → c ≤ x → x < c + n → x < 1024 → used (putRun m c n b) x ≡ b
 unfolding putRun
-used-run m c zero b i h hc hb hi = absurd (not-suc-le-zero hi)
-used-run m c (suc n) b i h hc hb hi = ⊎-elim last (before (used-run m c n b i h (omega arith) hb)) (same-or-not i n)
+used-run-in m c zero b x h hb p q r = absurd (omega arith)
+used-run-in m c (suc n) b x h hb p q r = ⊎-elim last (before (λ u. used-run-in m c n b x h hb p u r)) (same-or-not x (c + n))
   where
-    last : i ≡ n → used (put (putRun m c n b) (c + n) b) (c + i) ≡ b
-    last e = ap (λ (k : ℕ). used (put (putRun m c n b) (c + n) b) (c + k)) e ∙ used-put (putRun m c n b) (c + n) b (run-map m c n b h hb) (omega arith) hb
+    last : x ≡ c + n → used (put (putRun m c n b) (c + n) b) x ≡ b
+    last e = ap (used (put (putRun m c n b) (c + n) b)) e ∙ used-put (putRun m c n b) (c + n) b (run-map m c n b h hb) (omega arith) hb
 
-    before : (i < n → used (putRun m c n b) (c + i) ≡ b) → (i ≡ n → ⊥) → used (put (putRun m c n b) (c + n) b) (c + i) ≡ b
-    before ih ne = used-put-other (putRun m c n b) (c + n) b (c + i) hb (λ e. ne (omega arith)) ∙ ih (omega arith)
+    before : (x < c + n → used (putRun m c n b) x ≡ b) → (x ≡ c + n → ⊥) → used (put (putRun m c n b) (c + n) b) x ≡ b
+    before ih ne = used-put-other (putRun m c n b) (c + n) b x hb ne ∙ ih (omega arith)
+
+pub used-run : (m : List ℕ) (c n b i : ℕ) → IsMap m → c + n ≤ 1024 → b < 2 → i < n → used (putRun m c n b) (c + i) ≡ b
+used-run m c n b i h hc hb hi = used-run-in m c n b (c + i) h hb (omega arith) (omega arith) (omega arith)
 
 pub used-run-other : (m : List ℕ) (c n b j : ℕ) → b < 2 → (j < c) ⊎ (c + n ≤ j) → used (putRun m c n b) j ≡ used m j
 unfolding putRun
@@ -230,3 +233,13 @@ lowest-range m n h = by (lowest-is-lowest m n h)
     by : {r : ℕ} → IsLowest m n r → r ≤ none
     by (nowhere f) = omega arith
     by (found run f) = omega (arith, run .within)
+
+-- a run of no cells starts at cell 0
+pub lowest-of-none : (m : List ℕ) → lowestRun m 0 ≡ 0
+unfolding lowestRun lowestFrom runAt freeCells
+lowest-of-none m = refl
+
+-- what is found is a cell or 65535, in sixteen bits
+pub lowest-fits : (m : List ℕ) (n : ℕ) → lowestRun m n ≤ none
+lowest-fits m zero = omega (arith, lowest-of-none m)
+lowest-fits m (suc n) = lowest-range m (suc n) (omega arith)

@@ -4,6 +4,7 @@ pub mod Bits
 pub mod CellMap
 pub mod Refusals
 pub mod Answered
+pub mod MapCount
 pub mod Records
 pub mod Counts
 pub mod Effects

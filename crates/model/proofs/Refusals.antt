@@ -64,6 +64,26 @@ applies n (g ∷ l) = (eqb (g .0) n and g .1) or applies n l
 abbrev pub given : List Refusal → ℕ
 given l = refuse l (λ n. n) 0
 
+-- what a step does whose number was found first: above 0 it is refused by it, at 0 it is accepted
+pub refused-by-given : {A : Type 0} (l : List Refusal) (f : ℕ → A) (o : A) → 0 < given l → refuse l f o ≡ f (given l)
+refused-by-given [] f o h = absurd (omega arith)
+refused-by-given (g ∷ l) f o h = by (g .1) h (refused-by-given l f o)
+  where
+    by : (b : Bool) → 0 < pick b (g .0) (given l) → (0 < given l → refuse l f o ≡ f (given l))
+        → pick b (f (g .0)) (refuse l f o) ≡ f (pick b (g .0) (given l))
+    by true p r = refl
+    by false p r = r p
+
+pub accepted-by-given : {A : Type 0} (l : List Refusal) (f : ℕ → A) (o : A) → T (numbers (ltb 0) l) → given l ≡ 0 → refuse l f o ≡ o
+accepted-by-given [] f o t e = refl
+accepted-by-given (g ∷ l) f o t e = by (ltb 0 (g .0)) refl t (g .1) e (accepted-by-given l f o)
+  where
+    by : (p : Bool) → ltb 0 (g .0) ≡ p → T (p and numbers (ltb 0) l) → (b : Bool) → pick b (g .0) (given l) ≡ 0
+        → (T (numbers (ltb 0) l) → given l ≡ 0 → refuse l f o ≡ o) → pick b (f (g .0)) (refuse l f o) ≡ o
+    by true p u true e r = absurd (omega (arith, ltb-true 0 (g .0) p))
+    by true p u false e r = r u e
+    by false p u b e r = absurd u
+
 floor : (l : List Refusal) (n m : ℕ) → T (atLeast n l) → applies m l ≡ true → n ≤ m
 floor [] n m t e = clash false e refl
 floor (g ∷ l) n m t e = by (leb n (g .0)) refl t (eqb (g .0) m) refl (g .1) e (λ u. floor l n m u)

@@ -1,0 +1,15 @@
+use borrow.Author.Needs.{needs}
+use Rattle.keeper.proofs.one_copied.Statement.{statement}
+use Rattle.keeper.proofs.one_copied.Tie as tie
+use Rattle.keeper.proofs.one_copied.Reads as reads
+use Rattle.keeper.proofs.one_copied.Lts as lts
+use Rattle.keeper.proofs.one_more.Reads as one-more-reads
+
+one-more-requires : tie.Need-one-more-requires
+one-more-requires c κs = search needs
+
+returns : tie.Need-returns
+returns c = simp (c .one-more .ensures)
+
+pub one-copied-spec : {M : Type 1} → statement M
+one-copied-spec = tie.close (tie.spec one-more-requires returns)

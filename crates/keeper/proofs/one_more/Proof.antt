@@ -1,0 +1,17 @@
+use Rattle.model.specs.State.{rise}
+use borrow.Author.Needs.{needs}
+use Rattle.keeper.proofs.one_more.Statement.{statement}
+use Rattle.keeper.proofs.one_more.Tie as tie
+use Rattle.keeper.proofs.one_more.Reads as reads
+use Rattle.keeper.proofs.one_more.Lts as lts
+use Rattle.std.proofs.num.wrapping_add_u32.Reads as wrapping-add-u32-reads
+
+wrapping-add-u32-requires : tie.Need-wrapping-add-u32-requires
+wrapping-add-u32-requires c κs = search needs
+
+returns : tie.Need-returns
+unfolding rise
+returns c = c .wrapping-add-u32 .ensures
+
+pub one-more-spec : {M : Type 1} → statement M
+one-more-spec = tie.close (tie.spec wrapping-add-u32-requires returns)

@@ -1,0 +1,25 @@
+use Rattle.keeper.specs.Kept.{openFirst}
+use borrow.Author.Tests.{not-true, not-false}
+use borrow.Author.Needs.{needs}
+use Rattle.keeper.proofs.open_first.Statement.{statement}
+use Rattle.keeper.proofs.open_first.Tie as tie
+use Rattle.keeper.proofs.open_first.Reads as reads
+use Rattle.keeper.proofs.open_first.Lts as lts
+use Rattle.keeper.proofs.stay.Reads as stay-reads
+
+stay-requires : tie.Need-stay-requires
+stay-requires c κs = search needs
+
+returns : tie.Need-returns
+unfolding openFirst
+returns c = simp (not-true (c .before .before .args .passed) (c .before .if1 .taken)) (c .stay .ensures)
+
+stay-requires-2 : tie.Need-stay-requires-2
+stay-requires-2 c κs = search needs
+
+returns-2 : tie.Need-returns-2
+unfolding openFirst
+returns-2 c = simp (not-false (c .before .before .args .passed) (c .before .if1 .left)) (c .stay2 .ensures)
+
+pub open-first-spec : {M : Type 1} → statement M
+open-first-spec = tie.close (tie.spec stay-requires returns stay-requires-2 returns-2)

@@ -1,0 +1,132 @@
+-- What the keeper's functions leave: the move or the control record, the word that changes, whether marks are cleared, the answer.
+-- The arena and the rows themselves are left to the caller; proofs/Acts joins these to the model's steps.
+use mathlib.Core.Bool.{Bool, true, false, not}
+use mathlib.Core.List.{List, [], _∷_}
+use Prim.Native.Nat.{ℕ}
+use lib.Dec.{eqb}
+use Rattle.model.specs.declared.Move.{Move}
+use Rattle.model.specs.declared.Control.{Control}
+use Rattle.model.specs.declared.Change.{Change}
+use Rattle.model.specs.declared.Change.the-variants.{Nothing, Put}
+use Rattle.model.specs.declared.Answer.{Answer}
+use Rattle.model.specs.declared.Answer.the-variants.{Refused, Admitted, Begun, BarrierOpen, CopyingStarts, Copied, Committed, CalledOff, GivenBack, Done}
+use Rattle.model.specs.Choice.{pick}
+use Rattle.model.specs.Kinds.{cells}
+use Rattle.model.specs.Records.{none, start, place, header, plain, flagged, cellsAt, wordsAt, newRecord, laid}
+use Rattle.model.specs.CellMap.{lowestRun}
+use Rattle.model.specs.State.{Stage, idle, firstBarrier, copying, secondBarrier, thirdBarrier, stageNumber, noMove, withStage, withMove, withBegun, withCommitted, withAborted, rise, entry}
+use Rattle.model.specs.KeeperSteps.{taken, freed, withEntry, firstMove, replicaWord}
+use Rattle.model.specs.Refusals.{Refusal, _if_, refuse, badMeter, badKind, isNone, moving, admitRefusals, beginRefusals}
+use Rattle.keeper.specs.declared.Moved.{Moved}
+use Rattle.keeper.specs.declared.Kept.{Kept}
+
+abbrev pub moved : Move → Change → Bool → Answer → Moved
+moved v change clear x = record { mv = v; change = change; clear = clear; answer = x }
+
+abbrev pub kept : Control → Change → Bool → Answer → Kept
+kept c change clear x = record { control = c; change = change; clear = clear; answer = x }
+
+-- only the answer is given
+abbrev pub stays : Move → Answer → Moved
+stays v x = moved v Nothing false x
+
+abbrev pub refusedKept : Control → ℕ → Kept
+refusedKept c n = kept c Nothing false (Refused n)
+
+-- ADVANCE by the move alone. First barrier: "if any row has not passed, answer 22, nothing changes; else to copying, answer 23"
+unfoldable pub openFirst : Move → Bool → Moved
+openFirst v passed = pick passed (moved (withStage v copying) Nothing false CopyingStarts) (stays v BarrierOpen)
+
+-- copying: "writes one word of the replica, in order from 0 .. After the last word marks are cleared and the stage is second barrier."
+abbrev pub oneCopied : Move → ℕ → Change → Bool → Moved
+oneCopied v stage change clear =
+    moved (record { stage = stage; meter = v .meter; from = v .from; target = v .target; copied = rise (v .copied) }) change clear (Copied (rise (v .copied)))
+
+abbrev pub copiedWord : List ℕ → Move → Stage → Bool → Moved
+copiedWord arena v stage clear = oneCopied v (stageNumber stage) (Put (place (v .target) (v .copied)) (replicaWord arena v)) clear
+
+unfoldable pub copyMove : List ℕ → Move → Moved
+copyMove arena v =
+    pick (eqb (rise (v .copied)) (wordsAt arena (v .from))) (copiedWord arena v secondBarrier true) (copiedWord arena v copying false)
+
+-- at the second and third barrier the move alone is enough only to answer 22
+abbrev pub advanceMove : List ℕ → Move → Bool → Stage → Moved
+advanceMove arena v passed idle = stays v (Refused 9)
+advanceMove arena v passed firstBarrier = openFirst v passed
+advanceMove arena v passed copying = copyMove arena v
+advanceMove arena v passed secondBarrier = stays v BarrierOpen
+advanceMove arena v passed thirdBarrier = stays v BarrierOpen
+
+-- the second barrier, all passed: "Equal: header becomes 2 × target, directory entry the target, committed rises, marks are
+-- cleared, stage third barrier, answer 25, value target."
+abbrev pub commitKept : Control → Kept
+commitKept c =
+    kept (withCommitted (withMove (withEntry c (c .mv .meter) (c .mv .target)) (withStage (c .mv) thirdBarrier)) (rise (c .committed)))
+    (Put (place (c .mv .from) 0) (plain (c .mv .target))) true (Committed (c .mv .target))
+
+-- a block of the moved record's length freed, and no move in hand
+abbrev pub endMove : Control → List ℕ → ℕ → Control
+endMove c arena cell = withMove (freed c cell (cellsAt arena (c .mv .from))) noMove
+
+-- "Not equal: the replica's cells are freed, aborted rises, no move in hand, answer 26."
+abbrev pub callOffKept : Control → List ℕ → Kept
+callOffKept c arena = kept (withAborted (endMove c arena (c .mv .target)) (rise (c .aborted))) Nothing false CalledOff
+
+-- "compare the header with 2 × from + 1"
+unfoldable pub settleKept : Control → List ℕ → Kept
+settleKept c arena = pick (eqb (header arena (c .mv .from)) (flagged (c .mv .from))) (commitKept c) (callOffKept c arena)
+
+-- the third barrier, all passed: "Else the old block's cells are freed, no move in hand, answer 27."
+abbrev pub giveBackKept : Control → List ℕ → Kept
+giveBackKept c arena = kept (endMove c arena (c .mv .from)) Nothing false GivenBack
+
+-- ADVANCE as a whole: what the move alone gives, put back; and what a barrier on the whole record gives once all have passed
+abbrev pub onMove : Control → Moved → Kept
+onMove c o = kept (withMove c (o .mv)) (o .change) (o .clear) (o .answer)
+
+abbrev pub advanceKept : Control → List ℕ → Bool → Stage → Kept
+advanceKept c arena passed idle = onMove c (advanceMove arena (c .mv) passed idle)
+advanceKept c arena passed firstBarrier = onMove c (advanceMove arena (c .mv) passed firstBarrier)
+advanceKept c arena passed copying = onMove c (advanceMove arena (c .mv) passed copying)
+advanceKept c arena passed secondBarrier = pick passed (settleKept c arena) (onMove c (advanceMove arena (c .mv) passed secondBarrier))
+advanceKept c arena passed thirdBarrier = pick passed (giveBackKept c arena) (onMove c (advanceMove arena (c .mv) passed thirdBarrier))
+
+-- 5, 8 and 10: the lines that RETIRE and BEGIN have in common
+abbrev pub recordRefusals : Control → ℕ → List Refusal
+recordRefusals c meter = 5 if badMeter meter ∷ 8 if moving c ∷ 10 if isNone (entry (c .dir) meter) ∷ []
+
+-- RETIRE of the record at a cell; whether some row holds it is told
+abbrev pub retiredKept : Control → List ℕ → ℕ → ℕ → Kept
+retiredKept c arena meter cell = kept (withEntry (freed c cell (cellsAt arena cell)) meter none) Nothing false (Done 0)
+
+unfoldable pub retireStep : Control → List ℕ → Bool → ℕ → Kept
+retireStep c arena held meter =
+    refuse (recordRefusals c meter) (refusedKept c) (refuse (11 if held ∷ []) (refusedKept c) (retiredKept c arena meter (entry (c .dir) meter)))
+
+-- BEGIN of the record at `from`
+abbrev pub begunKept : Control → List ℕ → ℕ → ℕ → ℕ → Kept
+begunKept c arena meter from target =
+    kept (withBegun (withMove (taken c target (cellsAt arena from)) (firstMove meter from target)) (rise (c .begun)))
+    (Put (place from 0) (flagged from)) true (Begun target)
+
+unfoldable pub beginStep : Control → List ℕ → ℕ → Kept
+beginStep c arena meter =
+    refuse (beginRefusals c arena meter) (refusedKept c)
+    (begunKept c arena meter (entry (c .dir) meter) (lowestRun (c .map) (cellsAt arena (entry (c .dir) meter))))
+
+-- 5 and 7: the lines that come before a search for the run
+abbrev pub newRefusals : Control → ℕ → ℕ → List Refusal
+newRefusals c meter kind = 5 if badMeter meter ∷ 5 if badKind kind ∷ 7 if not (isNone (entry (c .dir) meter)) ∷ []
+
+-- ADMIT: the control record, and the arena with the new record laid
+abbrev pub admittedKept : Control → ℕ → ℕ → ℕ → Kept
+admittedKept c meter kind at = kept (withEntry (taken c at (cells kind)) meter at) Nothing false (Admitted at)
+
+unfoldable pub admitStep : Control → ℕ → ℕ → Kept
+admitStep c meter kind =
+    refuse (admitRefusals c meter kind) (refusedKept c) (admittedKept c meter kind (lowestRun (c .map) (cells kind)))
+
+unfoldable pub admitArena : Control → List ℕ → ℕ → ℕ → List ℕ
+admitArena c arena meter kind =
+    refuse (admitRefusals c meter kind) (λ n. arena)
+    (laid arena (start (lowestRun (c .map) (cells kind))) (newRecord (lowestRun (c .map) (cells kind)) meter kind))

@@ -1,0 +1,398 @@
+// The keeper's steps. What needs the move alone goes by the move; the rest takes the control record by value and gives it back.
+// Knows nothing of rows: whether all have passed, and whether some row holds a record, is told; the caller clears the marks.
+ghost use mathlib.Core.Path.{_≡_};
+ghost use lib.ListN.{length, set};
+ghost use Rattle.model.specs.CellMap.{putRun};
+ghost use Rattle.model.specs.Records.{plain, flagged};
+ghost use Rattle.model.specs.State.{stageOf, inHand, noMove, rise, entry};
+ghost use Rattle.model.specs.KeeperSteps.{replicaWord, firstMove};
+ghost use Rattle.model.proofs.Refusals.{given};
+ghost use Rattle.keeper.specs.Kept.{refusedKept, stays, openFirst, oneCopied, copyMove, advanceMove, commitKept, endMove, callOffKept, settleKept, giveBackKept, recordRefusals, newRefusals, retireStep, beginStep, admitStep, admitArena};
+use model::{Answer, Change, Control, Move};
+
+// What ADVANCE leaves where the move alone is concerned.
+pub struct Moved {
+    pub mv: Move,
+    pub change: Change,
+    pub clear: bool,
+    pub answer: Answer,
+}
+
+// What a step on the whole control record leaves.
+pub struct Kept {
+    pub control: Control,
+    pub change: Change,
+    pub clear: bool,
+    pub answer: Answer,
+}
+
+// "absent (65535)"; also where a search finds nothing
+const NONE: u16 = 65535;
+const NOWHERE: u32 = 65535;
+
+// the end of a count of 32 bits
+const LAST: u32 = 4294967295;
+
+const NO_MOVE: Move = Move {
+    stage: 0,
+    meter: 0,
+    from: 0,
+    target: 0,
+    copied: 0,
+};
+
+fn wide(x: u16) -> u32
+    ensures { λ r. ⌜ r ≡ x ⌝ }
+{
+    x as u32
+}
+
+// "2 × target cell + flag"
+fn plain_header(cell: u16) -> u32
+    ensures { λ r. ⌜ r ≡ plain cell ⌝ }
+{
+    record::pack(wide(cell), false)
+}
+
+fn flagged_header(cell: u16) -> u32
+    ensures { λ r. ⌜ r ≡ flagged cell ⌝ }
+{
+    record::pack(wide(cell), true)
+}
+
+// A count "rises by one".
+fn one_more(n: u32) -> u32
+    ensures { λ r. ⌜ r ≡ rise n ⌝ }
+{
+    std::num::wrapping_add_u32(n, 1)
+}
+
+fn in_hand(stage: u32) -> bool
+    ensures { λ r. ⌜ r ≡ inHand (stageOf stage) ⌝ }
+{
+    match stage {
+        1..=4 => true,
+        _ => false,
+    }
+}
+
+// The directory's entry of a meter; a meter above 255 is absent.
+pub fn entry_of(dir: &[u16; 256], meter: u32) -> u16
+    requires { ⌜ length (now dir) ≡ 256 ⌝ }
+    ensures { λ r. ⌜ r ≡ entry (now (dir .entry)) meter ⌝ }
+{
+    if meter < 256 {
+        dir[meter as usize]
+    } else {
+        NONE
+    }
+}
+
+// The entry of a meter becomes a cell; a meter above 255 has none.
+fn set_entry(dir: &mut [u16; 256], meter: u32, cell: u16)
+    requires { ⌜ length (now dir) ≡ 256 ⌝ }
+    ensures { λ r. ⌜ now (dir .exit) ≡ set (now (dir .entry)) meter cell ⌝ }
+{
+    if meter < 256 {
+        dir[meter as usize] = cell;
+    }
+}
+
+fn stay(mv: Move, answer: Answer) -> Moved
+    ensures { λ r. ⌜ r ≡ stays mv answer ⌝ }
+{
+    Moved {
+        mv,
+        change: Change::Nothing,
+        clear: false,
+        answer,
+    }
+}
+
+// "if any row has not passed, answer 22, nothing changes; else to copying, answer 23"
+fn open_first(mv: Move, passed: bool) -> Moved
+    ensures { λ r. ⌜ r ≡ openFirst mv passed ⌝ }
+{
+    if !passed {
+        return stay(mv, Answer::BarrierOpen);
+    }
+    let mut next = mv;
+    next.stage = 2;
+    stay(next, Answer::CopyingStarts)
+}
+
+// "word 0 is 2 × target, every other word is copied"
+fn replica_word(arena: &[u32], mv: Move) -> u32
+    ensures { λ r. ⌜ r ≡ replicaWord (now (arena .entry)) mv ⌝ }
+{
+    if mv.copied == 0 {
+        plain_header(mv.target)
+    } else {
+        record::load(arena, record::place(wide(mv.from), mv.copied))
+    }
+}
+
+// The move with one word more copied.
+fn one_copied(mv: Move, stage: u32, change: Change, clear: bool) -> Moved
+    ensures { λ r. ⌜ r ≡ oneCopied mv stage change clear ⌝ }
+{
+    let done = one_more(mv.copied);
+    let mut next = mv;
+    next.stage = stage;
+    next.copied = done;
+    Moved {
+        mv: next,
+        change,
+        clear,
+        answer: Answer::Copied(done),
+    }
+}
+
+// "writes one word of the replica, in order from 0 .. After the last word marks are cleared and the stage is second barrier."
+fn copy_word(arena: &[u32], mv: Move) -> Moved
+    ensures { λ r. ⌜ r ≡ copyMove (now (arena .entry)) mv ⌝ }
+{
+    let lengths = record::lengths_at(arena, wide(mv.from));
+    let change = Change::Put {
+        at: record::place(wide(mv.target), mv.copied),
+        word: replica_word(arena, mv),
+    };
+    if one_more(mv.copied) == lengths.words {
+        one_copied(mv, 3, change, true)
+    } else {
+        one_copied(mv, 2, change, false)
+    }
+}
+
+// 4 ADVANCE, where the move alone is enough: the first barrier, copying, and any barrier that is open.
+pub fn advance(arena: &[u32], mv: Move, passed: bool) -> Moved
+    ensures { λ r. ⌜ r ≡ advanceMove (now (arena .entry)) mv passed (stageOf (mv .stage)) ⌝ }
+{
+    let stage = mv.stage;
+    match stage {
+        1 => open_first(mv, passed),
+        2 => copy_word(arena, mv),
+        3 | 4 => stay(mv, Answer::BarrierOpen),
+        _ => stay(mv, Answer::Refused(9)),
+    }
+}
+
+// "Equal: header becomes 2 × target, directory entry the target, committed rises, marks are cleared, stage third barrier"
+fn commit(control: Control) -> Kept
+    ensures { λ r. ⌜ r ≡ commitKept control ⌝ }
+{
+    let mut mv = control.mv;
+    let from = wide(mv.from);
+    let target = wide(mv.target);
+    mv.stage = 4;
+    let mut next = control;
+    set_entry(&mut next.dir, mv.meter, mv.target);
+    next.mv = mv;
+    next.committed = one_more(control.committed);
+    Kept {
+        control: next,
+        change: Change::Put {
+            at: record::place(from, 0),
+            word: plain_header(mv.target),
+        },
+        clear: true,
+        answer: Answer::Committed(target),
+    }
+}
+
+// A block of the moved record's length is freed, and no move is in hand.
+fn end_move(control: Control, arena: &[u32], cell: u16) -> Control
+    ensures { λ r. ⌜ r ≡ endMove control (now (arena .entry)) cell ⌝ }
+{
+    let mv = control.mv;
+    let lengths = record::lengths_at(arena, wide(mv.from));
+    let old = control.map;
+    let map = cells::free_run(old, wide(cell), lengths.cells);
+    let none = NO_MOVE;
+    let mut next = control;
+    next.map = map;
+    next.mv = none;
+    next
+}
+
+// "Not equal: the replica's cells are freed, aborted rises, no move in hand"
+fn call_off(control: Control, arena: &[u32]) -> Kept
+    ensures { λ r. ⌜ r ≡ callOffKept control (now (arena .entry)) ⌝ }
+{
+    let mv = control.mv;
+    let mut next = end_move(control, arena, mv.target);
+    next.aborted = one_more(control.aborted);
+    Kept {
+        control: next,
+        change: Change::Nothing,
+        clear: false,
+        answer: Answer::CalledOff,
+    }
+}
+
+// The second barrier, all passed: "compare the header with 2 × from + 1".
+pub fn settle(control: Control, arena: &[u32]) -> Kept
+    ensures { λ r. ⌜ r ≡ settleKept control (now (arena .entry)) ⌝ }
+{
+    let mv = control.mv;
+    let header = record::header_at(arena, wide(mv.from));
+    if header == flagged_header(mv.from) {
+        commit(control)
+    } else {
+        call_off(control, arena)
+    }
+}
+
+// The third barrier, all passed: "the old block's cells are freed, no move in hand".
+pub fn give_back(control: Control, arena: &[u32]) -> Kept
+    ensures { λ r. ⌜ r ≡ giveBackKept control (now (arena .entry)) ⌝ }
+{
+    let mv = control.mv;
+    Kept {
+        control: end_move(control, arena, mv.from),
+        change: Change::Nothing,
+        clear: false,
+        answer: Answer::GivenBack,
+    }
+}
+
+fn refused(control: Control, n: u32) -> Kept
+    ensures { λ r. ⌜ r ≡ refusedKept control n ⌝ }
+{
+    Kept {
+        control,
+        change: Change::Nothing,
+        clear: false,
+        answer: Answer::Refused(n),
+    }
+}
+
+// 5, 8 and 10, which RETIRE and BEGIN have in common; 0 where none applies.
+fn record_refusal(control: Control, meter: u32) -> u32
+    ensures { λ r. ⌜ r ≡ given (recordRefusals control meter) ⌝ }
+{
+    if 255 < meter {
+        return 5;
+    }
+    let mv = control.mv;
+    if in_hand(mv.stage) {
+        return 8;
+    }
+    if entry_of(&control.dir, meter) == NONE {
+        return 10;
+    }
+    0
+}
+
+// 2 "RETIRE a = meter. Directory entry absent, cells free."
+pub fn retire(control: Control, arena: &[u32], held: bool, meter: u32) -> Kept
+    ensures { λ r. ⌜ r ≡ retireStep control (now (arena .entry)) held meter ⌝ }
+{
+    let n = record_refusal(control, meter);
+    if 0 < n {
+        return refused(control, n);
+    }
+    if held {
+        return refused(control, 11);
+    }
+    let cell = wide(entry_of(&control.dir, meter));
+    let lengths = record::lengths_at(arena, cell);
+    let old = control.map;
+    let map = cells::free_run(old, cell, lengths.cells);
+    let mut next = control;
+    next.map = map;
+    set_entry(&mut next.dir, meter, NONE);
+    Kept {
+        control: next,
+        change: Change::Nothing,
+        clear: false,
+        answer: Answer::Done(0),
+    }
+}
+
+// 3 "BEGIN a = meter. The target is the lowest free run of the record's length. Its cells become used, the flag is set, begun rises
+// by one, passed marks are cleared, the stage is first barrier."
+pub fn begin(control: Control, arena: &[u32], meter: u32) -> Kept
+    ensures { λ r. ⌜ r ≡ beginStep control (now (arena .entry)) meter ⌝ }
+{
+    let n = record_refusal(control, meter);
+    if 0 < n {
+        return refused(control, n);
+    }
+    let from = entry_of(&control.dir, meter);
+    let cell = wide(from);
+    let lengths = record::lengths_at(arena, cell);
+    let old = control.map;
+    let target = cells::lowest_run(old, lengths.cells);
+    if cell <= target {
+        return refused(control, 13);
+    }
+    if control.begun == LAST {
+        return refused(control, 15);
+    }
+    let map = cells::take_run(old, target, lengths.cells);
+    let mv = Move {
+        stage: 1,
+        meter,
+        from,
+        target: target as u16,
+        copied: 0,
+    };
+    let mut next = control;
+    next.map = map;
+    next.mv = mv;
+    next.begun = one_more(control.begun);
+    Kept {
+        control: next,
+        change: Change::Put {
+            at: record::place(cell, 0),
+            word: flagged_header(from),
+        },
+        clear: true,
+        answer: Answer::Begun(target),
+    }
+}
+
+// 5 and 7 of ADMIT; 0 where neither applies.
+fn admit_refusal(control: Control, meter: u32, kind: u32) -> u32
+    ensures { λ r. ⌜ r ≡ given (newRefusals control meter kind) ⌝ }
+{
+    if 255 < meter {
+        return 5;
+    }
+    if 3 < kind {
+        return 5;
+    }
+    if entry_of(&control.dir, meter) != NONE {
+        return 7;
+    }
+    0
+}
+
+// 1 "ADMIT a = meter, b = kind. Takes the lowest run of free cells long enough. Header 2c, label set, payload zero."
+pub fn admit(control: Control, arena: &mut [u32], meter: u32, kind: u32) -> Kept
+    ensures kept { λ r. ⌜ r ≡ admitStep control meter kind ⌝ }
+    ensures laid { λ r. ⌜ now (arena .exit) ≡ admitArena control (now (arena .entry)) meter kind ⌝ }
+{
+    let n = admit_refusal(control, meter, kind);
+    if 0 < n {
+        return refused(control, n);
+    }
+    let lengths = record::lengths_of(kind);
+    let old = control.map;
+    let cell = cells::lowest_run(old, lengths.cells);
+    if cell == NOWHERE {
+        return refused(control, 12);
+    }
+    record::lay_record(arena, cell as u16, meter as u8, kind as u8);
+    let map = cells::take_run(old, cell, lengths.cells);
+    let mut next = control;
+    next.map = map;
+    set_entry(&mut next.dir, meter, cell as u16);
+    Kept {
+        control: next,
+        change: Change::Nothing,
+        clear: false,
+        answer: Answer::Admitted(cell),
+    }
+}
