@@ -1,3 +1,4 @@
 pub mod Stages
 pub mod Entries
 pub mod Ways
+pub mod Acts

@@ -4,6 +4,7 @@ use mathlib.Core.Bool.{Bool, true, false, not}
 use mathlib.Core.List.{List, [], _∷_}
 use Prim.Native.Nat.{ℕ}
 use lib.Dec.{eqb}
+use Rattle.model.specs.declared.Row.{Row}
 use Rattle.model.specs.declared.Move.{Move}
 use Rattle.model.specs.declared.Control.{Control}
 use Rattle.model.specs.declared.Change.{Change}
@@ -14,7 +15,10 @@ use Rattle.model.specs.Choice.{pick}
 use Rattle.model.specs.Kinds.{cells}
 use Rattle.model.specs.Records.{none, start, place, header, plain, flagged, cellsAt, wordsAt, newRecord, laid}
 use Rattle.model.specs.CellMap.{lowestRun}
-use Rattle.model.specs.State.{Stage, idle, firstBarrier, copying, secondBarrier, thirdBarrier, stageNumber, noMove, withStage, withMove, withBegun, withCommitted, withAborted, rise, entry}
+use Rattle.model.specs.Rows.{clearMarks}
+use Rattle.model.specs.State.{State, state, Stage, idle, firstBarrier, copying, secondBarrier, thirdBarrier, stageNumber, noMove, withStage, withMove, withBegun, withCommitted, withAborted, rise, entry}
+use Rattle.model.specs.Answers.{Outcome, outcome}
+use Rattle.model.specs.ClientSteps.{changed}
 use Rattle.model.specs.KeeperSteps.{taken, freed, withEntry, firstMove, replicaWord}
 use Rattle.model.specs.Refusals.{Refusal, _if_, refuse, badMeter, badKind, isNone, moving, admitRefusals, beginRefusals}
 use Rattle.keeper.specs.declared.Moved.{Moved}
@@ -80,16 +84,26 @@ settleKept c arena = pick (eqb (header arena (c .mv .from)) (flagged (c .mv .fro
 abbrev pub giveBackKept : Control → List ℕ → Kept
 giveBackKept c arena = kept (endMove c arena (c .mv .from)) Nothing false GivenBack
 
--- ADVANCE as a whole: what the move alone gives, put back; and what a barrier on the whole record gives once all have passed
+-- ADVANCE as a whole: the second and third barrier want the whole record, once all have passed; else the move alone is enough
+abbrev pub closing : Bool → Stage → Bool
+closing passed idle = false
+closing passed firstBarrier = false
+closing passed copying = false
+closing passed secondBarrier = passed
+closing passed thirdBarrier = passed
+
+abbrev pub closeKept : Control → List ℕ → Stage → Kept
+closeKept c arena idle = kept c Nothing false BarrierOpen
+closeKept c arena firstBarrier = kept c Nothing false BarrierOpen
+closeKept c arena copying = kept c Nothing false BarrierOpen
+closeKept c arena secondBarrier = settleKept c arena
+closeKept c arena thirdBarrier = giveBackKept c arena
+
 abbrev pub onMove : Control → Moved → Kept
 onMove c o = kept (withMove c (o .mv)) (o .change) (o .clear) (o .answer)
 
 abbrev pub advanceKept : Control → List ℕ → Bool → Stage → Kept
-advanceKept c arena passed idle = onMove c (advanceMove arena (c .mv) passed idle)
-advanceKept c arena passed firstBarrier = onMove c (advanceMove arena (c .mv) passed firstBarrier)
-advanceKept c arena passed copying = onMove c (advanceMove arena (c .mv) passed copying)
-advanceKept c arena passed secondBarrier = pick passed (settleKept c arena) (onMove c (advanceMove arena (c .mv) passed secondBarrier))
-advanceKept c arena passed thirdBarrier = pick passed (giveBackKept c arena) (onMove c (advanceMove arena (c .mv) passed thirdBarrier))
+advanceKept c arena passed x = pick (closing passed x) (closeKept c arena x) (onMove c (advanceMove arena (c .mv) passed x))
 
 -- 5, 8 and 10: the lines that RETIRE and BEGIN have in common
 abbrev pub recordRefusals : Control → ℕ → List Refusal
@@ -130,3 +144,15 @@ unfoldable pub admitArena : Control → List ℕ → ℕ → ℕ → List ℕ
 admitArena c arena meter kind =
     refuse (admitRefusals c meter kind) (λ n. arena)
     (laid arena (start (lowestRun (c .map) (cells kind))) (newRecord (lowestRun (c .map) (cells kind)) meter kind))
+
+-- what a step leaves, put back into the state: the word that changes, and the marks where they are cleared
+abbrev pub marked : Bool → List Row → List Row
+marked true table = clearMarks table
+marked false table = table
+
+abbrev pub placed : State → Kept → Outcome
+placed s o = outcome (o .answer) (state (o .control) (changed (s .arena) (o .change)) (marked (o .clear) (s .table)))
+
+-- ADMIT: the arena beside the rest
+abbrev pub placedWith : State → Kept → List ℕ → Outcome
+placedWith s o arena = outcome (o .answer) (state (o .control) arena (s .table))

@@ -7,7 +7,7 @@ ghost use Rattle.model.specs.Records.{plain, flagged};
 ghost use Rattle.model.specs.State.{stageOf, inHand, noMove, rise, entry};
 ghost use Rattle.model.specs.KeeperSteps.{replicaWord, firstMove};
 ghost use Rattle.model.proofs.Refusals.{given};
-ghost use Rattle.keeper.specs.Kept.{refusedKept, stays, openFirst, oneCopied, copyMove, advanceMove, commitKept, endMove, callOffKept, settleKept, giveBackKept, recordRefusals, newRefusals, retireStep, beginStep, admitStep, admitArena};
+ghost use Rattle.keeper.specs.Kept.{refusedKept, stays, openFirst, oneCopied, copyMove, advanceMove, commitKept, endMove, callOffKept, settleKept, giveBackKept, closing, closeKept, recordRefusals, newRefusals, retireStep, beginStep, admitStep, admitArena};
 use model::{Answer, Change, Control, Move};
 
 // What ADVANCE leaves where the move alone is concerned.
@@ -172,7 +172,7 @@ pub fn advance(arena: &[u32], mv: Move, passed: bool) -> Moved
     match stage {
         1 => open_first(mv, passed),
         2 => copy_word(arena, mv),
-        3 | 4 => stay(mv, Answer::BarrierOpen),
+        3..=4 => stay(mv, Answer::BarrierOpen),
         _ => stay(mv, Answer::Refused(9)),
     }
 }
@@ -231,7 +231,7 @@ fn call_off(control: Control, arena: &[u32]) -> Kept
 }
 
 // The second barrier, all passed: "compare the header with 2 × from + 1".
-pub fn settle(control: Control, arena: &[u32]) -> Kept
+fn settle(control: Control, arena: &[u32]) -> Kept
     ensures { λ r. ⌜ r ≡ settleKept control (now (arena .entry)) ⌝ }
 {
     let mv = control.mv;
@@ -244,7 +244,7 @@ pub fn settle(control: Control, arena: &[u32]) -> Kept
 }
 
 // The third barrier, all passed: "the old block's cells are freed, no move in hand".
-pub fn give_back(control: Control, arena: &[u32]) -> Kept
+fn give_back(control: Control, arena: &[u32]) -> Kept
     ensures { λ r. ⌜ r ≡ giveBackKept control (now (arena .entry)) ⌝ }
 {
     let mv = control.mv;
@@ -253,6 +253,35 @@ pub fn give_back(control: Control, arena: &[u32]) -> Kept
         change: Change::Nothing,
         clear: false,
         answer: Answer::GivenBack,
+    }
+}
+
+// Whether 4 ADVANCE needs the whole control record: at the second and third barrier, once all have passed.
+pub fn closes(mv: Move, passed: bool) -> bool
+    ensures { λ r. ⌜ r ≡ closing passed (stageOf (mv .stage)) ⌝ }
+{
+    let stage = mv.stage;
+    match stage {
+        3..=4 => passed,
+        _ => false,
+    }
+}
+
+// 4 ADVANCE on the whole control record; at the other stages it changes nothing.
+pub fn close(control: Control, arena: &[u32]) -> Kept
+    ensures { λ r. ⌜ r ≡ closeKept control (now (arena .entry)) (stageOf (control .mv .stage)) ⌝ }
+{
+    let mv = control.mv;
+    let stage = mv.stage;
+    match stage {
+        3 => settle(control, arena),
+        4 => give_back(control, arena),
+        _ => Kept {
+            control,
+            change: Change::Nothing,
+            clear: false,
+            answer: Answer::BarrierOpen,
+        },
     }
 }
 

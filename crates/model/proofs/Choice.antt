@@ -16,6 +16,11 @@ pub by-test : {A : Type 0} (P : A → Type 0) (t : Bool) {x y : A} → (t ≡ tr
 by-test P true f g = f refl
 by-test P false f g = g refl
 
+-- what is made of a choice is made of both ways
+pub pick-map : {A B : Type 0} (g : A → B) (t : Bool) (x y : A) → g (pick t x y) ≡ pick t (g x) (g y)
+pick-map g true x y = refl
+pick-map g false x y = refl
+
 -- both parts of an `and`
 pub and-parts : (p q : Bool) → (p and q) ≡ true → (p ≡ true) × (q ≡ true)
 and-parts true q e = (refl, e)

@@ -1,6 +1,6 @@
 -- Laws of refusing: the line that is given is the lowest that applies, and what is shown of each line and of the accepted outcome
 -- holds of whatever is given. Assumes nothing.
-use mathlib.Core.Path.{_≡_, refl, sym, subst}
+use mathlib.Core.Path.{_≡_, refl, sym, ap, _∙_, subst}
 use mathlib.Core.Bool.{Bool, true, false}
 use mathlib.Core.List.{List, [], _∷_}
 use Prim.Native.Nat.{ℕ, _≤_}
@@ -9,7 +9,7 @@ use lib.Dec.{T, eqb, leb}
 use borrow.Author.Tests.{eqb-true, leb-true}
 use Rattle.model.specs.Choice.{pick, _and_, _or_}
 use Rattle.model.specs.Refusals.{Refusal, refuse}
-use Rattle.model.proofs.Choice.{by-test, clash}
+use Rattle.model.proofs.Choice.{by-test, clash, pick-map}
 
 -- no line applies
 abbrev pub Passed : List Refusal → Type 0
@@ -63,6 +63,11 @@ applies n (g ∷ l) = (eqb (g .0) n and g .1) or applies n l
 -- the number that is given, or 0
 abbrev pub given : List Refusal → ℕ
 given l = refuse l (λ n. n) 0
+
+-- what is made of an outcome is made of each way to it
+pub refuse-map : {A B : Type 0} (g : A → B) (l : List Refusal) (f : ℕ → A) (o : A) → g (refuse l f o) ≡ refuse l (λ n. g (f n)) (g o)
+refuse-map g [] f o = refl
+refuse-map g (r ∷ l) f o = pick-map g (r .1) (f (r .0)) (refuse l f o) ∙ ap (pick (r .1) (g (f (r .0)))) (refuse-map g l f o)
 
 -- what a step does whose number was found first: above 0 it is refused by it, at 0 it is accepted
 pub refused-by-given : {A : Type 0} (l : List Refusal) (f : ℕ → A) (o : A) → 0 < given l → refuse l f o ≡ f (given l)
