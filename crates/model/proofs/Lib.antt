@@ -14,5 +14,4 @@ pub mod Covers
 pub mod Wording
 pub mod Fresh
 pub mod Sizes
-pub mod Records
 pub mod Holds
