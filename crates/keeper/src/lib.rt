@@ -8,7 +8,10 @@ ghost use Rattle.model.specs.State.{stageOf, inHand, noMove, rise, entry};
 ghost use Rattle.model.specs.KeeperSteps.{replicaWord, firstMove};
 ghost use Rattle.model.proofs.Refusals.{given};
 ghost use Rattle.keeper.specs.Kept.{refusedKept, stays, openFirst, oneCopied, copyMove, advanceMove, commitKept, endMove, callOffKept, settleKept, giveBackKept, closing, closeKept, recordRefusals, newRefusals, retireStep, beginStep, admitStep, admitArena};
-use model::{Answer, Change, Control, Move};
+use model::Answer;
+use model::Change;
+use model::Control;
+use model::Move;
 
 // What ADVANCE leaves where the move alone is concerned.
 pub struct Moved {
@@ -28,6 +31,7 @@ pub struct Kept {
 
 // "absent (65535)"; also where a search finds nothing
 const NONE: u16 = 65535;
+
 const NOWHERE: u32 = 65535;
 
 // the end of a count of 32 bits

@@ -83,9 +83,9 @@ returns-3 c = let b = c .before .before .before .before .before .before .before 
     let t = rw (c .before .before .before .before .before .before .before .before .before .before .lengths-of .ensures) at (c .before .before .before .before .before .before .before .before .lowest-run .ensures) in
     let none = rw t at (c .before .before .before .before .before .before .before .if2 .left) in (
       rw (admit-done (b .control) (b .meter) (b .kind) (refusedKept (b .control)) _ (omega (arith, c .before .before .before .before .before .before .before .before .before .before .before .before .admit-refusal .ensures, c .before .before .before .before .before .before .before .before .before .before .before .if1 .left)) none)
-      (simp (c .set-entry .ensures, c .before .before .take-run .ensures, t, c .before .before .before .before .before .before .before .before .before .before .lengths-of .ensures)),
+          (simp (c .set-entry .ensures, c .before .before .take-run .ensures, t, c .before .before .before .before .before .before .before .before .before .before .lengths-of .ensures)),
       rw (admit-done (b .control) (b .meter) (b .kind) (λ n. now (b .arena)) _ (omega (arith, c .before .before .before .before .before .before .before .before .before .before .before .before .admit-refusal .ensures, c .before .before .before .before .before .before .before .before .before .before .before .if1 .left)) none)
-      (simp (c .before .before .before .before .before .lay-record .ensures, t)),
+          (simp (c .before .before .before .before .before .lay-record .ensures, t)),
     )
 
 pub admit-spec : {M : Type 1} → statement M
