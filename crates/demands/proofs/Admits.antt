@@ -1,7 +1,7 @@
 -- ADMIT and RETIRE keep the invariant: one meter's entry changes, and no row speaks of that meter. Assumes nothing.
 use mathlib.Core.Path.{_≡_, refl, sym, ap, _∙_}
 use mathlib.Core.Logic.{_≢_, ⊎-elim}
-use mathlib.Core.Bool.{Bool, true, false}
+use mathlib.Core.Bool.{false}
 use mathlib.Core.List.{List}
 use Prim.Native.Nat.{ℕ, _+_, _*_, _≤_, _<_}
 use native.Mathlib.Omega.{arith}
@@ -12,34 +12,33 @@ use borrow.Author.Tests.{eqb-true, eqb-false, eq-eqb, ne-eqb, ltb-false, not-fal
 use Rattle.model.specs.declared.Access.{Access}
 use Rattle.model.specs.declared.Row.{Row}
 use Rattle.model.specs.declared.Move.{Move}
-use Rattle.model.specs.Choice.{any}
 use Rattle.model.specs.Kinds.{cells, words}
-use Rattle.model.specs.Records.{none, start, word, header, label, kindOf, newRecord, laid}
+use Rattle.model.specs.Records.{none, start, word, header, label, newRecord, laid}
 use Rattle.model.specs.CellMap.{lowestRun, putRun}
 use Rattle.model.specs.Rows.{holdOf, hold, freshRow}
 use Rattle.model.specs.State.{Stage, idle, firstBarrier, copying, secondBarrier, thirdBarrier, stageOf, entry, State}
-use Rattle.model.specs.KeeperSteps.{admit, retire}
 use Rattle.model.specs.Rules as rules
-use Rattle.model.specs.Refusals.{holdsCell, refuse}
-use Rattle.model.specs.Steps.{Step, ADMIT, RETIRE, refusals, effect, refused}
+use Rattle.model.specs.Refusals.{holdsCell}
+use Rattle.model.specs.Steps.{Step, ADMIT, RETIRE}
 use Rattle.model.proofs.Choice.{same-or-not}
-use Rattle.model.proofs.ByKind.{Real, real}
+use Rattle.model.proofs.ByKind.{real}
 use Rattle.model.proofs.CellMap.{FreeRun, run-map, lowest-free}
 use Rattle.model.proofs.Records.{length-laid, laid-in, new-length, new-zero}
-use Rattle.model.proofs.Refusals.{unless-refused}
-use Rattle.demands.specs.Log.{Client, Account, update, admits}
-use Rattle.demands.proofs.Stages.{Idle, Early, Late, idle-of, idle-early, idle-late}
+use Rattle.demands.specs.Log.{Client, Account, update}
+use Rattle.demands.proofs.Stages.{Idle, idle-of, idle-early, idle-late}
 use Rattle.demands.proofs.Lists.{getD-in, set-cases, any-get}
 use Rattle.demands.proofs.Owners.{other, Owns, repaint, repaint-cases, repaint-in, owns-keep, mapped-run, run-unowned}
 use Rattle.demands.proofs.Words.{laid-else}
-use Rattle.demands.proofs.Inv.{Flag, HoldOK, empty, here, was, Place, at-entry, at-hold, Asked, RowOK, own-head, EntryOK, Sides, early, late, SidesOK, Block, in-entry, in-other, Count, Core, Inv}
+use Rattle.demands.proofs.Inv.{HoldOK, empty, here, was, Place, at-entry, at-hold, Asked, RowOK, own-head, EntryOK, Sides, early}
+use Rattle.demands.proofs.Inv.{late, SidesOK, Block, in-entry, in-other, Count, Core, Inv}
 use Rattle.demands.proofs.Blocks.{meter-lt, entry-range, home-in, home-lt, home-entry, home-real, copied-fit, held-in, held-kind}
 use Rattle.demands.proofs.Entries.{carry-entry, same-account}
 use Rattle.demands.proofs.RowLaws.{carry-phase, reflag-row}
-use Rattle.demands.proofs.Clients.{Good}
+use Rattle.demands.proofs.Keeping.{Keeps, keeps}
 
 -- a row whose filled holds were opened on other meters than a, when a's entry and kind change
-redirected-row : {X : Type 0} {dir : List ℕ} {v : Move} {kind kind′ : ℕ → ℕ} {h b : ℕ} {r : Row} {q : Client} (a c : ℕ) → ((i : ℕ) → hold r i ≢ none → q .opened i ≢ a)
+redirected-row : {X : Type 0} {dir : List ℕ} {v : Move} {kind kind′ : ℕ → ℕ} {h b : ℕ} {r : Row} {q : Client} (a c : ℕ)
+    → ((i : ℕ) → hold r i ≢ none → q .opened i ≢ a)
     → ((m : ℕ) → m ≢ a → kind′ m ≡ kind m) → RowOK X dir v kind h b r q → RowOK X (set dir a c) v kind′ h b r q
 redirected-row {dir = dir} {v = v} {kind = kind} {kind′ = kind′} {r = r} {q = q} a c off same R = record {
   four = R .four;
@@ -75,7 +74,8 @@ redirected-row {dir = dir} {v = v} {kind = kind} {kind′ = kind′} {r = r} {q 
     keep-ask n A = record { pending = A .pending; filled = A .filled; fits = rw (same _ n) (A .fits) }
 
 -- RETIRE of meter a
-module _ {X : Type 0} {dir map : List ℕ} {v : Move} {arena : List ℕ} {val : ℕ → ℕ → ℕ} {kind own : ℕ → ℕ} (C : Core X dir map v arena val kind own)
+module _ {X : Type 0} {dir map : List ℕ} {v : Move} {arena : List ℕ} {val : ℕ → ℕ → ℕ} {kind own : ℕ → ℕ}
+    (C : Core X dir map v arena val kind own)
     (quiet : Idle v) (a : ℕ) (present : entry dir a ≢ none) where
   no-sides : {c d : ℕ} → Sides v c d → ⊥
   no-sides (early l) = idle-early v quiet l
@@ -91,11 +91,14 @@ module _ {X : Type 0} {dir map : List ℕ} {v : Move} {arena : List ℕ} {val : 
         entries256 = length-set dir a none ∙ C .entries256;
         words8192 = C .words8192;
         is-map = run-map map (entry dir a) n 0 (C .is-map) (omega arith);
-        entries = set-cases (λ m c. c ≢ none → EntryOK X v arena val kind (repaint own (entry dir a) n none) m c) dir a none none (getD-in dir a none present) (λ z. absurd (z refl))
+        entries = set-cases (λ m c. c ≢ none → EntryOK X v arena val kind (repaint own (entry dir a) n none) m c) dir a none none
+            (getD-in dir a none present) (λ z. absurd (z refl))
             (λ m ne y. let E = C .entries m y in
-            carry-entry E (owns-keep own (entry dir a) n none m (entry dir m) (cells (kind m)) (λ x p q e. ne (sym e ∙ Y .owns x p q)) (E .owns)) (E .head) (λ j _ _. refl));
+            carry-entry E (owns-keep own (entry dir a) n none m (entry dir m) (cells (kind m)) (λ x p q e. ne (sym e ∙ Y .owns x p q))
+            (E .owns)) (E .head) (λ j _ _. refl));
         mapped = mapped-run own map (entry dir a) n none 0 (C .is-map) (Y .range) (omega arith) refl (C .mapped);
-        owned = λ x. repaint-cases (λ (i : ℕ). i ≢ none → Block (set dir a none) v kind x i) own (entry dir a) n none x (λ _ _ e. absurd (e refl)) (λ o i. keep-block o (C .owned x i));
+        owned = λ x. repaint-cases (λ (i : ℕ). i ≢ none → Block (set dir a none) v kind x i) own (entry dir a) n none x
+            (λ _ _ e. absurd (e refl)) (λ o i. keep-block o (C .owned x i));
         idle = C .idle;
         sides = λ b. absurd (no-sides b);
         count = C .count;
@@ -106,10 +109,12 @@ module _ {X : Type 0} {dir map : List ℕ} {v : Move} {arena : List ℕ} {val : 
         replica = λ _ f. absurd (idle-early v quiet (f .0));
       }
     where
-      keep-block : {x i : ℕ} → (entry dir a ≤ x → x < entry dir a + cells (kind a) → ⊥) → Block dir v kind x i → Block (set dir a none) v kind x i
+      keep-block : {x i : ℕ} → (entry dir a ≤ x → x < entry dir a + cells (kind a) → ⊥) → Block dir v kind x i
+          → Block (set dir a none) v kind x i
       keep-block {x} {i} o (in-entry p q r) =
           ⊎-elim (λ (e : i ≡ a). absurd (o (rw e at q) (rw e at r)))
-          (λ (ne : i ≢ a). let u = getD-set-other dir a i none none ne in in-entry (λ y. p (sym u ∙ y)) (omega arith) (omega arith)) (same-or-not i a)
+          (λ (ne : i ≢ a). let u = getD-set-other dir a i none none ne in in-entry (λ y. p (sym u ∙ y)) (omega arith) (omega arith))
+          (same-or-not i a)
       keep-block o (in-other b _ _ _) = absurd (no-sides b)
 
   -- a hold of another cell was opened on another meter
@@ -118,15 +123,16 @@ module _ {X : Type 0} {dir map : List ℕ} {v : Move} {arena : List ℕ} {val : 
   held-other (here u e) z w = λ i. w (sym e ∙ ap (entry dir) i)
   held-other (was l _ _) z w = absurd (idle-late v quiet l)
 
-pub retire-inv : {X : Type 0} (s : State) (g : Account) (t : Step) → Inv X s g → Good X RETIRE g t (refuse (refusals RETIRE s t) (refused s) (effect RETIRE s t))
+pub retire-inv : {X : Type 0} (s : State) (g : Account) (t : Step) → Inv X s g → Keeps X RETIRE s g t
 retire-inv {X} s g t I =
-    unless-refused (Good X RETIRE g t) (refusals RETIRE s t) (refused s) (effect RETIRE s t) (λ _. I) (λ k.
+    keeps RETIRE s g t I (λ k.
     let c : ℕ = entry (s .control .dir) (t .a) in
     let quiet = idle-of (s .control .mv) (k .1 .0) in
     let present : c ≢ none = eqb-false c none (k .1 .1 .0) in
     let free : (i j : ℕ) → hold (getD (s .table) i freshRow) j ≢ c =
     λ i j e. eqb-false c (hold (getD (s .table) i freshRow) j)
-    (any-get (eqb c) (getD (s .table) i freshRow .holds) none (any-get (holdsCell c) (s .table) freshRow (k .1 .1 .1 .0) (none-fresh c present) i) (ne-eqb c none present) j) (sym e) in
+    (any-get (eqb c) (getD (s .table) i freshRow .holds) none
+    (any-get (holdsCell c) (s .table) freshRow (k .1 .1 .1 .0) (none-fresh c present) i) (ne-eqb c none present) j) (sym e) in
     rw (held-kind (I .core) {h = c} {m = t .a} (here (entry-range (I .core) (t .a) present) refl) present)
     (record {
       own = repaint (I .own) c (cells (g .kind (t .a))) none;
@@ -134,7 +140,8 @@ retire-inv {X} s g t I =
       eight = I .eight;
       r7 = I .r7;
       small = I .small;
-      rows = λ i. redirected-row (t .a) none (λ j z. held-other (I .core) quiet (t .a) present (I .rows i .holds j) z (free i j)) (λ m _. refl) (I .rows i);
+      rows = λ i. redirected-row (t .a) none (λ j z. held-other (I .core) quiet (t .a) present (I .rows i .holds j) z (free i j))
+          (λ m _. refl) (I .rows i);
     }))
   where
     none-fresh : (c : ℕ) → c ≢ none → holdsCell c freshRow ≡ false
@@ -148,7 +155,8 @@ count-same secondBarrier z z′ n e f k = k ∙ e tt
 count-same thirdBarrier z z′ n e f k = k ∙ f tt
 
 -- ADMIT of meter a, of kind k, at the free cells from c on
-module _ {X : Type 0} {dir map : List ℕ} {v : Move} {arena : List ℕ} {val : ℕ → ℕ → ℕ} {kind own : ℕ → ℕ} (C : Core X dir map v arena val kind own)
+module _ {X : Type 0} {dir map : List ℕ} {v : Move} {arena : List ℕ} {val : ℕ → ℕ → ℕ} {kind own : ℕ → ℕ}
+    (C : Core X dir map v arena val kind own)
     (a k c : ℕ) (ha : a ≤ 255) (hk : k < 4) (absent : entry dir a ≡ none) (run : FreeRun map (cells k) c) where
   abbrev kind′ : ℕ → ℕ
   kind′ = update kind a k
@@ -179,13 +187,15 @@ module _ {X : Type 0} {dir map : List ℕ} {v : Move} {arena : List ℕ} {val : 
 
   -- the blocks that stood keep their words and owners
   pub old-word : (i d z j : ℕ) → i ≢ none → Owns own i d z → j < 8 * z → word arena′ d j ≡ word arena d j
-  old-word i d z j n o b = laid-else own arena none c (cells k) (newRecord c a k) i d z j (run-unowned own map (cells k) c (C .mapped) run) o (new-length c a k hk) b (λ e. n (sym e))
+  old-word i d z j n o b = laid-else own arena none c (cells k) (newRecord c a k) i d z j
+      (run-unowned own map (cells k) c (C .mapped) run) o (new-length c a k hk) b (λ e. n (sym e))
 
   old-owns : (i d z : ℕ) → i ≢ none → Owns own i d z → Owns own′ i d z
   old-owns i d z n o = owns-keep own c (cells k) a i d z (λ x p q e. n (sym e ∙ run-unowned own map (cells k) c (C .mapped) run x p q)) o
 
   new-word : (j : ℕ) → j < 8 * cells k → word arena′ c j ≡ getD (newRecord c a k) j 0
-  new-word j b = laid-in arena (start c) (newRecord c a k) (start c + j) j refl (omega (arith, new-length c a k hk)) (omega (arith, C .words8192, run .within))
+  new-word j b = laid-in arena (start c) (newRecord c a k) (start c + j) j refl (omega (arith, new-length c a k hk))
+      (omega (arith, C .words8192, run .within))
 
   admitted : EntryOK X v arena′ val′ kind′ own′ a c
   admitted =
@@ -204,8 +214,10 @@ module _ {X : Type 0} {dir map : List ℕ} {v : Move} {arena : List ℕ} {val : 
       let E = C .entries m y in
       let z = real (kind m) (E .kinded) in
       let i : m ≢ none = λ e. omega (arith, meter-lt C m y) in
-      let same : (j : ℕ) → j < 8 * cells (kind m) → word arena′ (entry dir m) j ≡ word arena (entry dir m) j = λ j b. old-word m (entry dir m) (cells (kind m)) j i (E .owns) b in
-      same-account (same-kind m ne) (rw (ne-eqb m a ne)) (carry-entry E (old-owns m (entry dir m) (cells (kind m)) i (E .owns)) (rw (same 0 (omega arith)) (E .head)) (λ j _ b. same j b))
+      let same : (j : ℕ) → j < 8 * cells (kind m) → word arena′ (entry dir m) j ≡ word arena (entry dir m) j =
+      λ j b. old-word m (entry dir m) (cells (kind m)) j i (E .owns) b in
+      same-account (same-kind m ne) (rw (ne-eqb m a ne))
+      (carry-entry E (old-owns m (entry dir m) (cells (kind m)) i (E .owns)) (rw (same 0 (omega arith)) (E .head)) (λ j _ b. same j b))
 
   keep-block : {x i : ℕ} → Block dir v kind x i → Block (set dir a c) v kind′ x i
   keep-block {x} {i} (in-entry p q r) =
@@ -229,7 +241,8 @@ module _ {X : Type 0} {dir map : List ℕ} {v : Move} {arena : List ℕ} {val : 
       }
 
   -- the words of the move's two blocks
-  side-word : {d e : ℕ} → Sides v d e → (j : ℕ) → j < 8 * cells (kind (v .meter)) → (word arena′ d j ≡ word arena d j) × (word arena′ e j ≡ word arena e j)
+  pub side-word : {d e : ℕ} → Sides v d e → (j : ℕ) → j < 8 * cells (kind (v .meter)) → (word arena′ d j ≡ word arena d j)
+      × (word arena′ e j ≡ word arena e j)
   side-word {d} {e} b j h = (
     old-word (v .meter) d (cells (kind (v .meter))) j (λ z. omega (arith, home-lt C b)) (home-entry C b .owns) h,
     old-word other e (cells (kind (v .meter))) j (λ z. omega arith) (C .sides b .owns) h,
@@ -241,8 +254,10 @@ module _ {X : Type 0} {dir map : List ℕ} {v : Move} {arena : List ℕ} {val : 
     words8192 = length-laid arena (start c) (newRecord c a k) ∙ C .words8192;
     is-map = run-map map c (cells k) 1 (C .is-map) (omega arith);
     entries = set-cases (λ m d. d ≢ none → EntryOK X v arena′ val′ kind′ own′ m d) dir a c none in-dir (λ _. admitted) stood;
-    mapped = mapped-run own map c (cells k) a 1 (C .is-map) (run .within) (omega arith) (rw (ne-eqb a none (λ e. omega arith)) refl) (C .mapped);
-    owned = λ x. repaint-cases (λ (i : ℕ). i ≢ none → Block (set dir a c) v kind′ x i) own c (cells k) a x (λ p q _. new-block p q) (λ _ i. keep-block (C .owned x i));
+    mapped = mapped-run own map c (cells k) a 1 (C .is-map) (run .within) (omega arith) (rw (ne-eqb a none (λ e. omega arith)) refl)
+        (C .mapped);
+    owned = λ x. repaint-cases (λ (i : ℕ). i ≢ none → Block (set dir a c) v kind′ x i) own c (cells k) a x (λ p q _. new-block p q)
+        (λ _ i. keep-block (C .owned x i));
     idle = C .idle;
     sides = λ b. keep-sides b;
     count = count-same (stageOf (v .stage)) (words (kind (v .meter))) (words (kind′ (v .meter))) (v .copied)
@@ -250,7 +265,8 @@ module _ {X : Type 0} {dir map : List ℕ} {v : Move} {arena : List ℕ} {val : 
     old-head = λ l. let z = home-real C (late l) in side-word (late l) 0 (omega arith) .1 ∙ C .old-head l;
     old-label = λ l. let z = home-real C (late l) in rw (moved-kind (late l)) (side-word (late l) 1 (omega arith) .1 ∙ C .old-label l);
     replica-head = λ l p. let z = home-real C (early l) in side-word (early l) 0 (omega arith) .1 ∙ C .replica-head l p;
-    replica-label = λ l p. let z = home-real C (early l) in rw (moved-kind (early l)) (side-word (early l) 1 (omega arith) .1 ∙ C .replica-label l p);
+    replica-label = λ l p. let z = home-real C (early l) in
+        rw (moved-kind (early l)) (side-word (early l) 1 (omega arith) .1 ∙ C .replica-label l p);
     replica = λ x f j p q.
         let b = early (f .0) in
         let z = home-real C b in
@@ -261,14 +277,15 @@ module _ {X : Type 0} {dir map : List ℕ} {v : Move} {arena : List ℕ} {val : 
       new-block : {x : ℕ} → c ≤ x → x < c + cells k → Block (set dir a c) v kind′ x a
       new-block {x} p q = in-entry (λ z. omega (arith, new-entry, run .within)) (rw new-entry p) (rw (new-entry, eq-eqb a a refl) q)
 
-  pub admitted-row : {b : ℕ} {r : Row} {q : Client} → RowOK X dir v kind (header arena (v .from)) b r q → RowOK X (set dir a c) v kind′ (header arena′ (v .from)) b r q
+  pub admitted-row : {b : ℕ} {r : Row} {q : Client} → RowOK X dir v kind (header arena (v .from)) b r q
+      → RowOK X (set dir a c) v kind′ (header arena′ (v .from)) b r q
   admitted-row R =
       redirected-row a c (λ i n. present-other _ (held-in C (R .holds i) n)) same-kind
       (reflag-row (λ f. let z = home-real C (early (f .0)) in (f .0, sym (side-word (early (f .0)) 0 (omega arith) .0) ∙ f .1)) R)
 
-pub admit-inv : {X : Type 0} (s : State) (g : Account) (t : Step) → Inv X s g → Good X ADMIT g t (refuse (refusals ADMIT s t) (refused s) (effect ADMIT s t))
+pub admit-inv : {X : Type 0} (s : State) (g : Account) (t : Step) → Inv X s g → Keeps X ADMIT s g t
 admit-inv {X} s g t I =
-    unless-refused (Good X ADMIT g t) (refusals ADMIT s t) (refused s) (effect ADMIT s t) (λ _. I) (λ k.
+    keeps ADMIT s g t I (λ k.
     let c : ℕ = lowestRun (s .control .map) (cells (t .b)) in
     let ha = ltb-false 255 (t .a) (k .0) in
     let small = ltb-false 3 (t .b) (k .1 .0) in

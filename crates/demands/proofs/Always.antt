@@ -1,24 +1,25 @@
 -- Every step keeps the invariant, fresh has it, and so it holds after every sequence of steps. Assumes nothing.
-use mathlib.Core.Path.{_≡_, refl, sym, ap, _∙_, subst⁻¹}
+use mathlib.Core.Path.{_≡_, refl, subst⁻¹}
 use mathlib.Core.Logic.{_⊎_, inl, inr, ⊎-elim}
 use mathlib.Core.List.{List, [], _∷_}
 use Prim.Native.Nat.{ℕ, zero, suc, pred, _<_}
 use native.Mathlib.Omega.{arith}
 use lib.Dec.{ltb}
-use lib.ListN.{getD, replicate}
+use lib.ListN.{replicate}
 use borrow.Author.Tests.{ltb-true}
 use Rattle.model.specs.Records.{none, header}
 use Rattle.model.specs.Rows.{freshRow}
 use Rattle.model.specs.State.{State, noMove}
 use Rattle.model.specs.Fresh.{fresh}
-use Rattle.model.specs.Refusals.{refuse}
-use Rattle.model.specs.Steps.{Step, Name, ADMIT, RETIRE, BEGIN, ADVANCE, ATTACH, DETACH, OPEN, DROP, READ, WRITE, GO, REST, UNKNOWN, NOBODY, named, nameOf, refusals, effect, refused, act}
+use Rattle.model.specs.Steps.{Step, Name, ADMIT, RETIRE, BEGIN, ADVANCE, ATTACH, DETACH, OPEN, DROP, READ, WRITE, GO, REST, UNKNOWN}
+use Rattle.model.specs.Steps.{NOBODY, named, nameOf, act}
 use Rattle.model.proofs.Choice.{by-test}
 use Rattle.model.proofs.CellMap.{fresh-map, fresh-free}
-use Rattle.demands.specs.Log.{Account, newClient, newAccount, told, after, log, said}
+use Rattle.demands.specs.Log.{Account, newClient, newAccount, after, log, said}
 use Rattle.demands.proofs.Lists.{getD-fresh}
+use Rattle.demands.proofs.Keeping.{Good, Keeps, keeps}
 use Rattle.demands.proofs.Inv.{empty, rests, RowOK, Sides, early, late, Inv}
-use Rattle.demands.proofs.Clients.{Good, attach-inv, detach-inv, open-inv, drop-inv, read-inv, write-inv, rest-inv}
+use Rattle.demands.proofs.Clients.{attach-inv, detach-inv, open-inv, drop-inv, read-inv, write-inv, rest-inv}
 use Rattle.demands.proofs.Finishes.{go-inv}
 use Rattle.demands.proofs.Begins.{begin-inv}
 use Rattle.demands.proofs.Ends.{advance-inv}
@@ -30,7 +31,7 @@ seated-or-nobody zero code = inr (omega arith)
 seated-or-nobody (suc client) code =
     by-test (λ (n : Name). (n ≡ NOBODY) ⊎ (client < 8)) (ltb client 8) (λ e. inr (ltb-true client 8 e)) (λ _. inl refl)
 
-step-inv : {X : Type 0} (n : Name) (s : State) (g : Account) (t : Step) → Inv X s g → pred (t .who) < 8 → Good X n g t (refuse (refusals n s t) (refused s) (effect n s t))
+step-inv : {X : Type 0} (n : Name) (s : State) (g : Account) (t : Step) → Inv X s g → pred (t .who) < 8 → Keeps X n s g t
 step-inv ADMIT s g t I seat = admit-inv s g t I
 step-inv RETIRE s g t I seat = retire-inv s g t I
 step-inv BEGIN s g t I seat = begin-inv s g t I
@@ -49,7 +50,7 @@ step-inv NOBODY s g t I seat = I
 pub act-inv : {X : Type 0} (s : State) (g : Account) (t : Step) → Inv X s g → Good X (nameOf t) g t (act s t)
 unfolding act
 act-inv {X} s g t I =
-    ⊎-elim (λ (e : nameOf t ≡ NOBODY). subst⁻¹ (λ (n : Name). Good X n g t (refuse (refusals n s t) (refused s) (effect n s t))) e I)
+    ⊎-elim (λ (e : nameOf t ≡ NOBODY). subst⁻¹ (λ (n : Name). Keeps X n s g t) e I)
     (step-inv (nameOf t) s g t I) (seated-or-nobody (t .who) (t .code))
 
 pub fresh-inv : {X : Type 0} → Inv X fresh newAccount

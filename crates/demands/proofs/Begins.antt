@@ -1,11 +1,10 @@
 -- BEGIN keeps the invariant: the target is a free run, so nobody's; the flag is up, and no row has passed. Assumes nothing.
-use mathlib.Core.Path.{_≡_, refl, sym, ap, _∙_}
+use mathlib.Core.Path.{_≡_, refl, sym, _∙_}
 use mathlib.Core.Logic.{_≢_}
-use mathlib.Core.Bool.{Bool, true, false}
 use mathlib.Core.List.{List}
-use Prim.Native.Nat.{ℕ, suc, _+_, _*_, _^_, _≤_, _<_}
+use Prim.Native.Nat.{ℕ, suc, _<_}
 use native.Mathlib.Omega.{arith}
-use lib.ListN.{getD, set, length-set, length-map}
+use lib.ListN.{set, length-set, length-map}
 use borrow.Author.Tests.{eqb-false, leb-false, not-true}
 use Rattle.model.specs.declared.Access.{Access}
 use Rattle.model.specs.declared.Phase.the-variants.{Resting, Ready}
@@ -14,27 +13,27 @@ use Rattle.model.specs.declared.Move.{Move}
 use Rattle.model.specs.Kinds.{cells}
 use Rattle.model.specs.Records.{none, place, label, kindOf, flagged}
 use Rattle.model.specs.CellMap.{lowestRun, putRun}
-use Rattle.model.specs.Rows.{cleared, clearMarks, freshRow}
+use Rattle.model.specs.Rows.{cleared, clearMarks}
 use Rattle.model.specs.State.{withMove, withBegun, rise, entry, State, state}
 use Rattle.model.specs.KeeperSteps.{taken, firstMove}
-use Rattle.model.specs.Refusals.{refuse}
 use Rattle.model.specs.Rules.{isEarly}
-use Rattle.model.specs.Steps.{Step, BEGIN, refusals, effect, refused}
-use Rattle.model.proofs.ByKind.{Real, real}
+use Rattle.model.specs.Steps.{Step, BEGIN}
+use Rattle.model.proofs.ByKind.{real}
 use Rattle.model.proofs.CellMap.{FreeRun, run-map, lowest-free}
 use Rattle.model.proofs.Counts.{rise-is}
-use Rattle.model.proofs.Refusals.{unless-refused}
 use Rattle.demands.specs.Log.{Client, Account}
-use Rattle.demands.proofs.Stages.{Idle, Early, Late, idle-of, idle-early, idle-late}
-use Rattle.demands.proofs.Owners.{other, Owns, repaint, repaint-cases, repaint-in, owns-keep, mapped-run, run-unowned}
-use Rattle.demands.proofs.Inv.{Flag, HoldOK, empty, here, was, ReadyOK, WaitingOK, RowOK, HeadOK, own-head, flag-head, Sides, early, late, SidesOK, Block, in-entry, in-other, Core, Inv}
+use Rattle.demands.proofs.Stages.{Idle, idle-of, idle-early, idle-late}
+use Rattle.demands.proofs.Owners.{other, repaint, repaint-cases, repaint-in, owns-keep, mapped-run, run-unowned}
+use Rattle.demands.proofs.Inv.{HoldOK, empty, here, was, RowOK, HeadOK, own-head, flag-head, Sides, early, late, SidesOK, Block}
+use Rattle.demands.proofs.Inv.{in-entry, in-other, Core, Inv}
 use Rattle.demands.proofs.Blocks.{meter-lt, entry-range, held-kind}
 use Rattle.demands.proofs.Entries.{stored-entry}
 use Rattle.demands.proofs.RowLaws.{one-not, carry-phase, marked, cleared-passed, cleared-get}
-use Rattle.demands.proofs.Clients.{Good}
+use Rattle.demands.proofs.Keeping.{Keeps, keeps}
 
 -- the move of meter a, at c, to target d
-module _ {X : Type 0} {dir map : List ℕ} {v : Move} {arena : List ℕ} {val : ℕ → ℕ → ℕ} {kind own : ℕ → ℕ} (C : Core X dir map v arena val kind own)
+module _ {X : Type 0} {dir map : List ℕ} {v : Move} {arena : List ℕ} {val : ℕ → ℕ → ℕ} {kind own : ℕ → ℕ}
+    (C : Core X dir map v arena val kind own)
     (quiet : Idle v) (a d : ℕ) (present : entry dir a ≢ none) (run : FreeRun map (cells (kind a)) d) where
   own′ : ℕ → ℕ
   own′ = repaint own d (cells (kind a)) other
@@ -50,17 +49,24 @@ module _ {X : Type 0} {dir map : List ℕ} {v : Move} {arena : List ℕ} {val : 
 
   new-sides : {c e : ℕ} → Sides (firstMove a (entry dir a) d) c e → SidesOK dir (firstMove a (entry dir a) d) kind own′ c e
   unfolding own′
-  new-sides (early l) = record { home = refl; inside = entry-range C a present; range = run .within; owns = repaint-in own d (cells (kind a)) other }
+  new-sides (early l) = record {
+    home = refl;
+    inside = entry-range C a present;
+    range = run .within;
+    owns = repaint-in own d (cells (kind a)) other;
+  }
   new-sides (late l) = absurd l
 
-  begun-core : Core X dir (putRun map d (cells (kind a)) 1) (firstMove a (entry dir a) d) (set arena (place (entry dir a) 0) (flagged (entry dir a))) val kind own′
+  begun-core : Core X dir (putRun map d (cells (kind a)) 1) (firstMove a (entry dir a) d)
+      (set arena (place (entry dir a) 0) (flagged (entry dir a))) val kind own′
   unfolding own′
   begun-core = record {
     entries256 = C .entries256;
     words8192 = length-set arena (place (entry dir a) 0) (flagged (entry dir a)) ∙ C .words8192;
     is-map = run-map map d (cells (kind a)) 1 (C .is-map) (omega arith);
     entries = λ m n. stored-entry C a (entry dir a) refl (entry-range C a present) (flagged (entry dir a)) m n
-        (owns-keep own d (cells (kind a)) other m (entry dir m) (cells (kind m)) (λ x p q i. omega (arith, run-unowned own map (cells (kind a)) d (C .mapped) run x p q, meter-lt C m n)) (C .entries m n .owns))
+        (owns-keep own d (cells (kind a)) other m (entry dir m) (cells (kind m))
+        (λ x p q i. omega (arith, run-unowned own map (cells (kind a)) d (C .mapped) run x p q, meter-lt C m n)) (C .entries m n .owns))
         (λ _. flag-head tt refl refl) (λ _ k. keep-head k);
     mapped = mapped-run own map d (cells (kind a)) other 1 (C .is-map) (run .within) (omega arith) refl (C .mapped);
     owned = λ x. repaint-cases (λ (i : ℕ). i ≢ none → Block dir (firstMove a (entry dir a) d) kind x i) own d (cells (kind a)) other x
@@ -75,7 +81,8 @@ module _ {X : Type 0} {dir map : List ℕ} {v : Move} {arena : List ℕ} {val : 
     replica = λ _ _ k p q. absurd (omega arith);
   }
 
-  begun-row : {h h′ b b′ : ℕ} {r : Row} {q : Client} → suc b ≡ b′ → RowOK X dir v kind h b r q → RowOK X dir (firstMove a (entry dir a) d) kind h′ b′ (cleared r) q
+  begun-row : {h h′ b b′ : ℕ} {r : Row} {q : Client} → suc b ≡ b′ → RowOK X dir v kind h b r q
+      → RowOK X dir (firstMove a (entry dir a) d) kind h′ b′ (cleared r) q
   begun-row {r = r} {q = q} up R = record {
     four = R .four;
     holds = λ i. keep-hold (R .holds i);
@@ -84,7 +91,12 @@ module _ {X : Type 0} {dir map : List ℕ} {v : Move} {arena : List ℕ} {val : 
     le = omega (arith, R .le);
     lt = λ _. omega (arith, R .le);
     phase = carry-phase (λ e. e)
-        (λ c x e W. record { asked = W .asked; place = W .place; newest = W .newest; away = λ _ _ p. absurd (busy (sym e ∙ R .detached (not-true (r .attached) (p tt)) .rests)) })
+        (λ c x e W. record {
+          asked = W .asked;
+          place = W .place;
+          newest = W .newest;
+          away = λ _ _ p. absurd (busy (sym e ∙ R .detached (not-true (r .attached) (p tt)) .rests));
+        })
         (λ c x W. record { asked = W .asked; held = W .held; owes = omega (arith, W .owes); elsewhere = λ _ _. omega (arith, W .owes) })
         (R .phase);
   }
@@ -102,10 +114,12 @@ module _ {X : Type 0} (s : State) (g : Account) (t : Step) (I : Inv X s g) where
   c = entry (s .control .dir) (t .a)
 
   began : (d : ℕ) → Idle (s .control .mv) → c ≢ none → FreeRun (s .control .map) (cells (g .kind (t .a))) d → s .control .begun ≢ 4294967295
-      → Inv X (state (withBegun (withMove (taken (s .control) d (cells (g .kind (t .a)))) (firstMove (t .a) c d)) (rise (s .control .begun)))
+      → Inv X (state (withBegun (withMove (taken (s .control) d (cells (g .kind (t .a)))) (firstMove (t .a) c d))
+      (rise (s .control .begun)))
       (set (s .arena) (place c 0) (flagged c)) (clearMarks (s .table))) g
   began d quiet present run more =
-      let up : rise (s .control .begun) ≡ suc (s .control .begun) = rise-is (s .control .begun) 4294967295 (omega (arith, I .small)) (omega arith) in
+      let up : rise (s .control .begun) ≡ suc (s .control .begun) = rise-is (s .control .begun) 4294967295 (omega (arith, I .small))
+      (omega arith) in
       record {
         own = own′ (I .core) quiet (t .a) d present run;
         core = begun-core (I .core) quiet (t .a) d present run;
@@ -115,10 +129,11 @@ module _ {X : Type 0} (s : State) (g : Account) (t : Step) (I : Inv X s g) where
         small = omega (arith, I .small);
       }
 
-  pub begin-inv : Good X BEGIN g t (refuse (refusals BEGIN s t) (refused s) (effect BEGIN s t))
-  begin-inv = unless-refused (Good X BEGIN g t) (refusals BEGIN s t) (refused s) (effect BEGIN s t) (λ _. I) (λ k.
+  pub begin-inv : Keeps X BEGIN s g t
+  begin-inv = keeps BEGIN s g t I (λ k.
       let present : c ≢ none = eqb-false c none (k .1 .1 .0) in
-      let same : kindOf (label (s .arena) c) ≡ g .kind (t .a) = held-kind (I .core) {h = c} {m = t .a} (here (entry-range (I .core) (t .a) present) refl) present in
+      let same : kindOf (label (s .arena) c) ≡ g .kind (t .a) = held-kind (I .core) {h = c} {m = t .a}
+      (here (entry-range (I .core) (t .a) present) refl) present in
       let d : ℕ = lowestRun (s .control .map) (cells (g .kind (t .a))) in
       let below : d < c = leb-false c d (rw same at (k .1 .1 .1 .0)) in
       let z = real (g .kind (t .a)) (I .core .entries (t .a) present .kinded) in

@@ -1,8 +1,8 @@
 -- What the invariant says of the records, of the move's two blocks and of a held cell. Assumes nothing.
-use mathlib.Core.Path.{_≡_, refl, sym, ap, _∙_}
+use mathlib.Core.Path.{_≡_, sym, ap, _∙_}
 use mathlib.Core.Logic.{_≢_}
 use mathlib.Core.List.{List}
-use Prim.Native.Nat.{ℕ, _+_, _*_, _/_, _%_, _≤_, _<_}
+use Prim.Native.Nat.{ℕ, _*_, _≤_, _<_}
 use native.Mathlib.Omega.{arith}
 use lib.Dec.{T}
 use Rattle.model.specs.declared.Move.{Move}
@@ -11,10 +11,10 @@ use Rattle.model.specs.Records.{none, header, plain, flagged, label, kindOf}
 use Rattle.model.specs.State.{Stage, idle, firstBarrier, copying, secondBarrier, thirdBarrier, stageOf, entry}
 use Rattle.model.specs.Rules as rules
 use Rattle.model.proofs.ByKind.{Real, real}
-use Rattle.demands.proofs.Stages.{first, First, Early, Late, not-both}
+use Rattle.demands.proofs.Stages.{first, First, Early, not-both}
 use Rattle.demands.proofs.Lists.{getD-in}
-use Rattle.demands.proofs.Owners.{other, Owns}
-use Rattle.demands.proofs.Inv.{Flag, HoldOK, empty, here, was, HeadOK, own-head, flag-head, EntryOK, Sides, early, late, SidesOK, Count, Core}
+use Rattle.demands.proofs.Owners.{other}
+use Rattle.demands.proofs.Inv.{Flag, HoldOK, empty, here, was, HeadOK, own-head, flag-head, EntryOK, Sides, early, late, Count, Core}
 
 pub copied-le : (g : Stage) (z n : ℕ) → T (rules.early g) → Count g z n → n ≤ z
 copied-le idle z n l k = absurd l
@@ -32,22 +32,21 @@ first-none thirdBarrier z n l k = absurd l
 
 -- a filled hold's cell: its header is plain and names the meter's entry t, or it is the moved record's, flagged
 pub data Cell (dir : List ℕ) (v : Move) (arena : List ℕ) (h m : ℕ) : Type 0 where
-  unflagged : (t : ℕ) → header arena h ≡ plain t → entry dir m ≡ t → t < 1024 → (Flag v (header arena (v .from)) → (t ≢ v .from) × (h ≢ v .from)) → Cell dir v arena h m
+  unflagged : (t : ℕ) → header arena h ≡ plain t → entry dir m ≡ t → t < 1024
+      → (Flag v (header arena (v .from)) → (t ≢ v .from) × (h ≢ v .from)) → Cell dir v arena h m
   flagged-cell : header arena h ≡ flagged h → entry dir m ≡ h → h < 1024 → Early v → h ≡ v .from → Cell dir v arena h m
 
-module _ {X : Type 0} {dir map : List ℕ} {v : Move} {arena : List ℕ} {val : ℕ → ℕ → ℕ} {kind own : ℕ → ℕ} (C : Core X dir map v arena val kind own) where
+module _ {X : Type 0} {dir map : List ℕ} {v : Move} {arena : List ℕ} {val : ℕ → ℕ → ℕ} {kind own : ℕ → ℕ}
+    (C : Core X dir map v arena val kind own) where
   pub meter-lt : (m : ℕ) → entry dir m ≢ none → m < 256
   meter-lt m n = omega (arith, getD-in dir m none n, C .entries256)
 
   pub entry-range : (m : ℕ) → entry dir m ≢ none → entry dir m < 1024
   entry-range m n = let E = C .entries m n in let z = real (kind m) (E .kinded) in omega (arith, E .range)
 
-  -- the owner of an entry's first cell: two entries at one cell are one
+  -- the owner of an entry's first cell
   pub entry-own : (m : ℕ) → entry dir m ≢ none → own (entry dir m) ≡ m
   entry-own m n = let E = C .entries m n in let z = real (kind m) (E .kinded) in E .owns (entry dir m) (omega arith) (omega arith)
-
-  pub entry-one : (m n : ℕ) → entry dir m ≢ none → entry dir m ≡ entry dir n → m ≡ n
-  entry-one m n z e = sym (entry-own m z) ∙ ap own e ∙ entry-own n (λ y. z (e ∙ y))
 
   -- the moved meter's record, at c, and the other block, at d
   module _ {c d : ℕ} (b : Sides v c d) where

@@ -1,39 +1,37 @@
 -- The commit keeps the invariant: the replica has every word of the record, its owner and the old block's change places, and no row is
 -- ready at the old block. Assumes nothing.
-use mathlib.Core.Path.{_≡_, refl, sym, ap, _∙_, subst}
+use mathlib.Core.Path.{_≡_, refl, sym, ap, _∙_}
 use mathlib.Core.Logic.{_≢_, ⊎-elim}
-use mathlib.Core.Bool.{Bool, true, false}
 use mathlib.Core.List.{List}
-use Prim.Native.Nat.{ℕ, suc, _+_, _*_, _≤_, _<_}
+use Prim.Native.Nat.{ℕ, suc, _+_, _*_, _<_}
 use native.Mathlib.Omega.{arith}
-use lib.ListN.{length, getD, set, length-set, length-map}
+use lib.ListN.{length, set, length-set, length-map}
 use lib.Seq.{getD-set-same, getD-set-other}
 use borrow.Author.Tests.{not-true}
 use Rattle.model.specs.declared.Row.{Row}
 use Rattle.model.specs.declared.Move.{Move}
 use Rattle.model.specs.Kinds.{cells}
 use Rattle.model.specs.Records.{none, place, word, header, plain, flagged}
-use Rattle.model.specs.Rows.{hold, cleared, freshRow}
+use Rattle.model.specs.Rows.{cleared}
 use Rattle.model.specs.State.{secondBarrier, stageOf, rise, entry, State}
 use Rattle.model.specs.KeeperSteps.{commit}
 use Rattle.model.specs.Rules.{isEarly}
 use Rattle.model.proofs.Choice.{same-or-not}
 use Rattle.model.proofs.Counts.{rise-is}
 use Rattle.demands.specs.Log.{Client, Account}
-use Rattle.demands.proofs.Stages.{First, Early, Late, not-both}
+use Rattle.demands.proofs.Stages.{First, Early, not-both}
 use Rattle.demands.proofs.Lists.{getD-in, set-cases}
 use Rattle.demands.proofs.Owners.{other, Owns, exchange, exchange-cases, mapped-exchange}
-use Rattle.demands.proofs.Inv.{Flag, HoldOK, empty, here, was, Place, at-entry, at-hold, RowOK, HeadOK, own-head, flag-head, EntryOK, Sides, early, late, SidesOK, Block, in-entry, in-other, Core, Inv}
+use Rattle.demands.proofs.Inv.{HoldOK, empty, here, was, Place, at-entry, at-hold, RowOK, HeadOK, own-head, flag-head, EntryOK}
+use Rattle.demands.proofs.Inv.{Sides, early, late, SidesOK, Block, in-entry, in-other, Core, Inv}
 use Rattle.demands.proofs.Blocks.{meter-lt, home-in, home-lt, home-entry, home-real, side-lt}
 use Rattle.demands.proofs.Entries.{stored-head, stored-else, stored-entry}
 use Rattle.demands.proofs.RowLaws.{one-early, carry-phase, marked, cleared-passed, cleared-get}
 use Rattle.demands.proofs.Copying.{restaged, count-at}
 
-module _ {X : Type 0} {dir map : List ℕ} {v : Move} {arena : List ℕ} {val : ℕ → ℕ → ℕ} {kind own : ℕ → ℕ} (C : Core X dir map v arena val kind own)
+module _ {X : Type 0} {dir map : List ℕ} {v : Move} {arena : List ℕ} {val : ℕ → ℕ → ℕ} {kind own : ℕ → ℕ}
+    (C : Core X dir map v arena val kind own)
     (l : Early v) (all : v .copied ≡ 8 * cells (kind (v .meter))) (flag : header arena (v .from) ≡ flagged (v .from)) where
-  abbrev M : ℕ
-  M = v .meter
-
   abbrev v′ : Move
   v′ = restaged v 4 (v .copied)
 
@@ -94,7 +92,8 @@ module _ {X : Type 0} {dir map : List ℕ} {v : Move} {arena : List ℕ} {val : 
   unmoved : (m : ℕ) → m ≢ v .meter → entry dir m ≢ none → EntryOK X v′ arena′ val kind own′ m (entry dir m)
   unmoved m n y =
       stored-entry C (v .meter) (v .from) (S .home) (S .inside) (plain (v .target)) m y
-      (owns-as m m (entry dir m) (cells (kind m)) (other-owner m n (meter-lt C m y)) (C .entries m y .owns)) (λ e. absurd (n e)) (λ _ k. keep k)
+      (owns-as m m (entry dir m) (cells (kind m)) (other-owner m n (meter-lt C m y)) (C .entries m y .owns)) (λ e. absurd (n e))
+      (λ _ k. keep k)
     where
       keep : {c h : ℕ} → HeadOK v m c h → HeadOK v′ m c h
       keep (own-head p) = own-head p
@@ -104,7 +103,8 @@ module _ {X : Type 0} {dir map : List ℕ} {v : Move} {arena : List ℕ} {val : 
   new-block {x} {i} (in-entry p q r) =
       ⊎-elim
       (λ (e : i ≡ v .meter). rw (e, home-owner) (in-other (late tt) refl (rw (e, S .home) at q) (rw (e, S .home) at r)))
-      (λ (n : i ≢ v .meter). rw (other-owner i n (meter-lt C i p)) (let u = old-entry i n in in-entry (λ z. p (sym u ∙ z)) (omega arith) (omega arith)))
+      (λ (n : i ≢ v .meter). rw (other-owner i n (meter-lt C i p))
+      (let u = old-entry i n in in-entry (λ z. p (sym u ∙ z)) (omega arith) (omega arith)))
       (same-or-not i (v .meter))
   new-block {x} {i} (in-other (early _) e q r) =
       rw (e, side-owner) (let u = new-entry in in-entry (λ z. omega (arith, side-lt C (early l))) (omega arith) (omega arith))
@@ -126,23 +126,27 @@ module _ {X : Type 0} {dir map : List ℕ} {v : Move} {arena : List ℕ} {val : 
         entries256 = length-set dir (v .meter) (v .target) ∙ C .entries256;
         words8192 = length-set arena (place (v .from) 0) (plain (v .target)) ∙ C .words8192;
         is-map = C .is-map;
-        entries = set-cases (λ m c. c ≢ none → EntryOK X v′ arena′ val kind own′ m c) dir (v .meter) (v .target) none in-dir (λ _. moved) unmoved;
+        entries = set-cases (λ m c. c ≢ none → EntryOK X v′ arena′ val kind own′ m c) dir (v .meter) (v .target) none in-dir
+            (λ _. moved) unmoved;
         mapped = mapped-exchange own map (v .meter) other (λ e. omega (arith, home-lt C (early l))) (λ e. omega arith) (C .mapped);
         owned = λ x n. new-block (C .owned x (λ e. n (ap (exchange (v .meter) other) e ∙ nobody)));
         idle = λ y. absurd y;
         sides = λ b. new-sides b;
         count = omega arith;
         old-head = λ _. stored-head C (v .meter) (v .from) (S .home) (S .inside) (plain (v .target));
-        old-label = λ _. stored-else C (v .meter) (v .from) (S .home) (S .inside) (plain (v .target)) (v .meter) (v .from) (cells (kind (v .meter))) 1 (Y .owns) (omega arith) (λ _. (refl, λ e. omega arith)) ∙ Y .label;
+        old-label = λ _. stored-else C (v .meter) (v .from) (S .home) (S .inside) (plain (v .target)) (v .meter) (v .from)
+            (cells (kind (v .meter))) 1 (Y .owns) (omega arith) (λ _. (refl, λ e. omega arith)) ∙ Y .label;
         replica-head = λ y. absurd y;
         replica-label = λ y. absurd y;
         replica = λ _ f. absurd (f .0);
       }
     where
       nobody : exchange (v .meter) other none ≡ none
-      nobody = exchange-cases (λ i j. j ≡ i) (v .meter) other none (λ e. absurd (omega (arith, home-lt C (early l)))) (λ e. absurd (omega arith)) (λ _ _. refl)
+      nobody = exchange-cases (λ i j. j ≡ i) (v .meter) other none (λ e. absurd (omega (arith, home-lt C (early l))))
+          (λ e. absurd (omega arith)) (λ _ _. refl)
 
-  pub committed-row : {h b : ℕ} {r : Row} {q : Client} → (First v → ⊥) → RowOK X dir v kind (header arena (v .from)) b r q → RowOK X dir′ v′ kind h b (cleared r) q
+  pub committed-row : {h b : ℕ} {r : Row} {q : Client} → (First v → ⊥) → RowOK X dir v kind (header arena (v .from)) b r q
+      → RowOK X dir′ v′ kind h b (cleared r) q
   committed-row {r = r} {q = q} beyond R = record {
     four = R .four;
     holds = λ i. new-hold (R .holds i);
@@ -155,7 +159,8 @@ module _ {X : Type 0} {dir map : List ℕ} {v : Move} {arena : List ℕ} {val : 
           asked = W .asked;
           place = new-place (R .holds _) (W .asked .filled) (W .place);
           away = λ _ f. absurd (f .0);
-          newest = λ y. old-entry _ (λ z. W .away y (l, flag) (λ k. absurd (beyond k)) (sym (W .newest y) ∙ ap (entry dir) z ∙ S .home)) ∙ W .newest y;
+          newest = λ y. old-entry _ (λ z. W .away y (l, flag) (λ k. absurd (beyond k)) (sym (W .newest y) ∙ ap (entry dir) z ∙ S .home))
+              ∙ W .newest y;
         })
         (λ c x W. record { asked = W .asked; held = W .held; owes = W .owes; elsewhere = λ f. absurd (f .0) })
         (R .phase);
@@ -164,14 +169,16 @@ module _ {X : Type 0} {dir map : List ℕ} {v : Move} {arena : List ℕ} {val : 
       new-hold : {h m : ℕ} → HoldOK dir v h m → HoldOK dir′ v′ h m
       new-hold (empty e) = empty e
       new-hold {h} {m} (here u e) =
-          ⊎-elim (λ (z : m ≡ v .meter). was tt (sym e ∙ ap (entry dir) z ∙ S .home) z) (λ (n : m ≢ v .meter). here u (old-entry m n ∙ e)) (same-or-not m (v .meter))
+          ⊎-elim (λ (z : m ≡ v .meter). was tt (sym e ∙ ap (entry dir) z ∙ S .home) z) (λ (n : m ≢ v .meter). here u (old-entry m n ∙ e))
+          (same-or-not m (v .meter))
       new-hold (was y _ _) = absurd (not-both v l y)
 
       -- a row ready at the moved record stays at the old block, its hold's
       new-place : {h m c : ℕ} → HoldOK dir v h m → h ≢ none → Place dir h m c → Place dir′ h m c
       new-place k n (at-hold e) = at-hold e
       new-place (empty z) n (at-entry e) = absurd (n z)
-      new-place {h} {m} {c} (here u z) n (at-entry e) = ⊎-elim (λ (y : m ≡ v .meter). at-hold (sym z ∙ e)) (λ (y : m ≢ v .meter). at-entry (old-entry m y ∙ e)) (same-or-not m (v .meter))
+      new-place {h} {m} {c} (here u z) n (at-entry e) = ⊎-elim (λ (y : m ≡ v .meter). at-hold (sym z ∙ e))
+          (λ (y : m ≢ v .meter). at-entry (old-entry m y ∙ e)) (same-or-not m (v .meter))
       new-place (was y _ _) n (at-entry e) = absurd (not-both v l y)
 
 pub commit-inv : {X : Type 0} (s : State) (g : Account) → Inv X s g → stageOf (s .control .mv .stage) ≡ secondBarrier
@@ -184,7 +191,8 @@ commit-inv {X} s g I e flag =
     let beyond : First v → ⊥ = λ y. rw e at y in
     let r7 = I .r7 in
     let now = one-early (isEarly v) l in
-    let up : rise (s .control .committed) ≡ suc (s .control .committed) = rise-is (s .control .committed) (s .control .begun) (omega arith) (I .small) in
+    let up : rise (s .control .committed) ≡ suc (s .control .committed) = rise-is (s .control .committed) (s .control .begun)
+    (omega arith) (I .small) in
     record {
       own = own′ (I .core) l all flag;
       core = committed-core (I .core) l all flag;

@@ -4,7 +4,7 @@ use mathlib.Core.Path.{_≡_, refl, sym, ap, _∙_, subst}
 use mathlib.Core.Logic.{_≢_, ⊎-elim}
 use mathlib.Core.Bool.{Bool, true, false, not}
 use mathlib.Core.List.{List}
-use Prim.Native.Nat.{ℕ, suc, _+_, _*_, _^_, _≤_, _<_}
+use Prim.Native.Nat.{ℕ, suc, _+_, _*_, _≤_, _<_}
 use native.Mathlib.Omega.{arith}
 use lib.Dec.{T, eqb}
 use lib.ListN.{length, getD, set, length-set, length-map}
@@ -13,11 +13,10 @@ use Rattle.model.specs.declared.Row.{Row}
 use Rattle.model.specs.declared.Move.{Move}
 use Rattle.model.specs.Choice.{one}
 use Rattle.model.specs.Kinds.{cells, words}
-use Rattle.model.specs.Records.{none, place, word, header, plain, label, labelOf, kindOf, wordsAt}
-use Rattle.model.specs.Rows.{freshRow, withPassed, cleared, clearMarks, allPassed}
-use Rattle.model.specs.State.{Stage, firstBarrier, copying, stageOf, inHand, withMove, rise, entry, State, state}
-use Rattle.model.specs.Answers.{Outcome}
-use Rattle.model.specs.KeeperSteps.{barrier, startCopying, replicaWord, copyWord}
+use Rattle.model.specs.Records.{place, word, header, plain, label, labelOf, wordsAt}
+use Rattle.model.specs.Rows.{freshRow, withPassed, cleared, allPassed}
+use Rattle.model.specs.State.{Stage, firstBarrier, copying, stageOf, inHand, rise, entry, State}
+use Rattle.model.specs.KeeperSteps.{startCopying, replicaWord, copyWord}
 use Rattle.model.specs.Steps.{Step, ADVANCE}
 use Rattle.model.specs.Rules as rules
 use Rattle.model.proofs.Choice.{by-test, same-or-not}
@@ -27,17 +26,19 @@ use Rattle.demands.specs.Log.{Client, Account}
 use Rattle.demands.proofs.Stages.{never, First, Early, Late, at-stage, not-both}
 use Rattle.demands.proofs.Owners.{other, Owns}
 use Rattle.demands.proofs.Words.{put-at, put-else}
-use Rattle.demands.proofs.Inv.{Flag, HoldOK, empty, here, was, RowOK, HeadOK, own-head, flag-head, EntryOK, Sides, early, late, SidesOK, Block, in-entry, in-other, Count, Core, Inv}
+use Rattle.demands.proofs.Inv.{Flag, HoldOK, empty, here, was, RowOK, HeadOK, own-head, flag-head, Sides, early, late, SidesOK}
+use Rattle.demands.proofs.Inv.{Block, in-entry, in-other, Count, Core, Inv}
 use Rattle.demands.proofs.Blocks.{meter-lt, home-lt, home-entry, home-real, copied-le, from-kind}
 use Rattle.demands.proofs.Entries.{carry-entry}
 use Rattle.demands.proofs.RowLaws.{one-early, carry-phase, marked, cleared-passed, cleared-get, passed-get}
-use Rattle.demands.proofs.Clients.{Good}
+use Rattle.demands.proofs.Keeping.{Good}
 
 -- the move at the stage of number k, with n words copied
 abbrev pub restaged : Move → ℕ → ℕ → Move
 restaged v k n = record { stage = k; meter = v .meter; from = v .from; target = v .target; copied = n }
 
-module _ {X : Type 0} {dir map : List ℕ} {v : Move} {arena : List ℕ} {val : ℕ → ℕ → ℕ} {kind own : ℕ → ℕ} (C : Core X dir map v arena val kind own)
+module _ {X : Type 0} {dir map : List ℕ} {v : Move} {arena : List ℕ} {val : ℕ → ℕ → ℕ} {kind own : ℕ → ℕ}
+    (C : Core X dir map v arena val kind own)
     (l : Early v) (k n : ℕ) (on : T (rules.early (stageOf k))) where
   keep-head : {m c h : ℕ} → HeadOK v m c h → HeadOK (restaged v k n) m c h
   keep-head (own-head p) = own-head p
@@ -56,7 +57,8 @@ module _ {X : Type 0} {dir map : List ℕ} {v : Move} {arena : List ℕ} {val : 
   keep-sides (late y) = absurd (not-late y)
 
   -- the arena may change in words that no meter owns
-  goes-on : (arena′ : List ℕ) → length arena′ ≡ 8192 → ((i d z j : ℕ) → i < 256 → Owns own i d z → j < 8 * z → word arena′ d j ≡ word arena d j)
+  goes-on : (arena′ : List ℕ) → length arena′ ≡ 8192
+      → ((i d z j : ℕ) → i < 256 → Owns own i d z → j < 8 * z → word arena′ d j ≡ word arena d j)
       → Count (stageOf k) (words (kind (v .meter))) n → (0 < n → header arena′ (v .target) ≡ plain (v .target))
       → (1 < n → label arena′ (v .target) ≡ labelOf (v .meter) (kind (v .meter)))
       → (X → Flag v (header arena (v .from)) → (j : ℕ) → 0 < j → j < n → word arena′ (v .target) j ≡ word arena (v .from) j)
@@ -85,12 +87,15 @@ module _ {X : Type 0} {dir map : List ℕ} {v : Move} {arena : List ℕ} {val : 
         let z = home-real C (early l) in
         let from : (j : ℕ) → j < 8 * cells (kind (v .meter)) → word arena′ (v .from) j ≡ word arena (v .from) j =
         λ j b. same (v .meter) (v .from) (cells (kind (v .meter))) j (home-lt C (early l)) (E .owns) b in
-        replica x (l, sym (from 0 (omega arith)) ∙ f .1) j p q ∙ sym (from j (omega (arith, copied-le (stageOf k) (words (kind (v .meter))) n on count)));
+        replica x (l, sym (from 0 (omega arith)) ∙ f .1) j p q
+        ∙ sym (from j (omega (arith, copied-le (stageOf k) (words (kind (v .meter))) n on count)));
   }
 
 -- a row at another of the first three stages, with another mark, which it passed the first barrier to get
-pub goes-on-row : {X : Type 0} {dir : List ℕ} {v : Move} {kind : ℕ → ℕ} {h h′ b : ℕ} {r : Row} {q : Client} (k n : ℕ) (p : Bool) → Early v → T (rules.early (stageOf k)) → h ≡ h′
-    → (r .attached ≡ false → p ≡ true) → (First v → r .passed ≡ true) → RowOK X dir v kind h b r q → RowOK X dir (restaged v k n) kind h′ b (withPassed r p) q
+pub goes-on-row : {X : Type 0} {dir : List ℕ} {v : Move} {kind : ℕ → ℕ} {h h′ b : ℕ} {r : Row} {q : Client} (k n : ℕ) (p : Bool)
+    → Early v → T (rules.early (stageOf k)) → h ≡ h′
+    → (r .attached ≡ false → p ≡ true) → (First v → r .passed ≡ true) → RowOK X dir v kind h b r q
+    → RowOK X dir (restaged v k n) kind h′ b (withPassed r p) q
 goes-on-row {dir = dir} {v = v} {h = h} {h′ = h′} {r = r} k n p l on e gone pass R = record {
   four = R .four;
   holds = λ i. keep-hold (R .holds i);
@@ -122,43 +127,58 @@ unfolding replicaWord
 next-word arena v n = rw (ne-eqb (v .copied) 0 n)
 
 -- one word more
-module _ {X : Type 0} {dir map : List ℕ} {v : Move} {arena : List ℕ} {val : ℕ → ℕ → ℕ} {kind own : ℕ → ℕ} (C : Core X dir map v arena val kind own)
+module _ {X : Type 0} {dir map : List ℕ} {v : Move} {arena : List ℕ} {val : ℕ → ℕ → ℕ} {kind own : ℕ → ℕ}
+    (C : Core X dir map v arena val kind own)
     (l : Early v) (more : v .copied < 8 * cells (kind (v .meter))) where
   abbrev arena′ : List ℕ
   arena′ = set arena (place (v .target) (v .copied)) (replicaWord arena v)
 
   meter-word : (i d z j : ℕ) → i < 256 → Owns own i d z → j < 8 * z → word arena′ d j ≡ word arena d j
   meter-word i d z j b o h =
-      put-else own arena other (v .target) (cells (kind (v .meter))) (v .copied) (replicaWord arena v) i d z j (C .sides (early l) .owns) o more h (λ y. absurd (omega arith))
+      put-else own arena other (v .target) (cells (kind (v .meter))) (v .copied) (replicaWord arena v) i d z j
+      (C .sides (early l) .owns) o more h (λ y. absurd (omega arith))
 
   pub from-word : (j : ℕ) → j < 8 * cells (kind (v .meter)) → word arena′ (v .from) j ≡ word arena (v .from) j
   from-word j b = meter-word (v .meter) (v .from) (cells (kind (v .meter))) j (home-lt C (early l)) (home-entry C (early l) .owns) b
 
-  -- word j of the replica: the new one, or one that stood there
-  replica-cases : (P : ℕ → ℕ → Type 0) (j : ℕ) → j ≤ v .copied → P (v .copied) (replicaWord arena v) → (j < v .copied → P j (word arena (v .target) j)) → P j (word arena′ (v .target) j)
-  replica-cases P j b new old =
+  target-word : (j : ℕ) → j < 8 * cells (kind (v .meter)) → j ≢ v .copied → word arena′ (v .target) j ≡ word arena (v .target) j
+  target-word j b n =
       let S = C .sides (early l) in
-      ⊎-elim (λ (e : j ≡ v .copied). rw (e, put-at arena (v .target) (v .copied) (replicaWord arena v) (cells (kind (v .meter))) (C .words8192) (S .range) more) new)
-      (λ (ne : j ≢ v .copied). rw (put-else own arena other (v .target) (cells (kind (v .meter))) (v .copied) (replicaWord arena v) other (v .target) (cells (kind (v .meter))) j (S .owns) (S .owns) more (omega arith) (λ _. (refl, ne)))
-      (old (omega arith)))
+      put-else own arena other (v .target) (cells (kind (v .meter))) (v .copied) (replicaWord arena v) other (v .target)
+      (cells (kind (v .meter))) j (S .owns) (S .owns) more b (λ _. (refl, n))
+
+  new-word : word arena′ (v .target) (v .copied) ≡ replicaWord arena v
+  new-word = put-at arena (v .target) (v .copied) (replicaWord arena v) (cells (kind (v .meter))) (C .words8192) (C .sides (early l) .range) more
+
+  -- word j of the replica: the new one, or one that stood there
+  replica-cases : (P : ℕ → ℕ → Type 0) (j : ℕ) → j ≤ v .copied → P (v .copied) (replicaWord arena v)
+      → (j < v .copied → P j (word arena (v .target) j)) → P j (word arena′ (v .target) j)
+  replica-cases P j b new old =
+      ⊎-elim (λ (e : j ≡ v .copied). rw (e, new-word) new) (λ (n : j ≢ v .copied). rw (target-word j (omega arith) n) (old (omega arith)))
       (same-or-not j (v .copied))
 
-  copied-core : (k n : ℕ) → T (rules.early (stageOf k)) → n ≡ suc (v .copied) → Count (stageOf k) (words (kind (v .meter))) n → Core X dir map (restaged v k n) arena′ val kind own
+  copied-core : (k n : ℕ) → T (rules.early (stageOf k)) → n ≡ suc (v .copied) → Count (stageOf k) (words (kind (v .meter))) n
+      → Core X dir map (restaged v k n) arena′ val kind own
   copied-core k n on e count =
       goes-on C l k n on arena′ (length-set arena (place (v .target) (v .copied)) (replicaWord arena v) ∙ C .words8192) meter-word count
-      (λ _. replica-cases (λ i x. i ≡ 0 → x ≡ plain (v .target)) 0 (omega arith) (λ z. first-word arena v z) (λ p _. C .replica-head l p) refl)
+      (λ _. replica-cases (λ i x. i ≡ 0 → x ≡ plain (v .target)) 0 (omega arith) (λ z. first-word arena v z)
+      (λ p _. C .replica-head l p) refl)
       (λ two. replica-cases (λ i x. i ≡ 1 → x ≡ labelOf (v .meter) (kind (v .meter))) 1 (omega arith)
-      (λ z. next-word arena v (λ y. omega arith) ∙ ap (word arena (v .from)) z ∙ home-entry C (early l) .label) (λ p _. C .replica-label l p) refl)
-      (λ x f j p q. replica-cases (λ i y. 0 < i → y ≡ word arena (v .from) i) j (omega arith) (λ i. next-word arena v (λ y. omega arith)) (λ b i. C .replica x f j i b) p)
+      (λ z. next-word arena v (λ y. omega arith) ∙ ap (word arena (v .from)) z ∙ home-entry C (early l) .label)
+      (λ p _. C .replica-label l p) refl)
+      (λ x f j p q. replica-cases (λ i y. 0 < i → y ≡ word arena (v .from) i) j (omega arith) (λ i. next-word arena v (λ y. omega arith))
+      (λ b i. C .replica x f j i b) p)
 
 module _ {X : Type 0} (s : State) (g : Account) (I : Inv X s g) where
   abbrev v : Move
   v = s .control .mv
 
-  pub count-at : (n : Stage) → stageOf (s .control .mv .stage) ≡ n → Count n (words (g .kind (s .control .mv .meter))) (s .control .mv .copied)
+  pub count-at : (n : Stage) → stageOf (s .control .mv .stage) ≡ n
+      → Count n (words (g .kind (s .control .mv .meter))) (s .control .mv .copied)
   count-at n e = subst (λ (x : Stage). Count x (words (g .kind (s .control .mv .meter))) (s .control .mv .copied)) e (I .core .count)
 
-  r7-on : Early (s .control .mv) → (k : ℕ) → T (rules.early (stageOf k)) → s .control .begun ≡ s .control .committed + s .control .aborted + one (rules.early (stageOf k))
+  r7-on : Early (s .control .mv) → (k : ℕ) → T (rules.early (stageOf k))
+      → s .control .begun ≡ s .control .committed + s .control .aborted + one (rules.early (stageOf k))
   r7-on l k on = omega (arith, I .r7, one-early (rules.isEarly (s .control .mv)) l, one-early (rules.early (stageOf k)) on)
 
   pub first-inv : stageOf (s .control .mv .stage) ≡ firstBarrier → allPassed (s .table) ≡ true → Inv X (startCopying s .next) g
@@ -173,7 +193,8 @@ module _ {X : Type 0} (s : State) (g : Account) (I : Inv X s g) where
         r7 = r7-on l 2 tt;
         core = goes-on (I .core) l 2 (s .control .mv .copied) tt (s .arena) (I .core .words8192) (λ i d z j _ _ _. refl) (omega arith)
             (λ q. absurd (omega arith)) (λ q. absurd (omega arith)) (λ _ _ j a b. absurd (omega arith));
-        rows = λ i. goes-on-row 2 (s .control .mv .copied) _ l tt refl (λ y. I .rows i .detached y .passed) (λ _. passed-get (s .table) p i) (I .rows i);
+        rows = λ i. goes-on-row 2 (s .control .mv .copied) _ l tt refl (λ y. I .rows i .detached y .passed)
+            (λ _. passed-get (s .table) p i) (I .rows i);
       }
 
   pub copy-inv : (t : Step) → stageOf (s .control .mv .stage) ≡ copying → Good X ADVANCE g t (copyWord s)
@@ -184,7 +205,8 @@ module _ {X : Type 0} (s : State) (g : Account) (I : Inv X s g) where
       let more : v .copied < 8 * cells (g .kind (v .meter)) = omega (arith, count-at copying e) in
       let up : rise (v .copied) ≡ suc (v .copied) = rise-is (v .copied) 64 (omega arith) (omega arith) in
       let size : wordsAt (s .arena) (v .from) ≡ words (g .kind (v .meter)) = ap words (from-kind (I .core) (early l)) in
-      let core : (k : ℕ) → T (rules.early (stageOf k)) → Count (stageOf k) (words (g .kind (v .meter))) (rise (v .copied)) → Core X _ _ (restaged v k (rise (v .copied))) _ _ _ _ =
+      let core : (k : ℕ) → T (rules.early (stageOf k)) → Count (stageOf k) (words (g .kind (v .meter))) (rise (v .copied))
+      → Core X _ _ (restaged v k (rise (v .copied))) _ _ _ _ =
       λ k on count. copied-core (I .core) l more k (rise (v .copied)) on up count in
       let same = sym (from-word (I .core) l more 0 (omega arith)) in
       let beyond : First v → ⊥ = λ y. rw e at y in
@@ -195,7 +217,8 @@ module _ {X : Type 0} (s : State) (g : Account) (I : Inv X s g) where
         small = I .small;
         r7 = r7-on l 3 tt;
         core = core 3 tt (eqb-true (rise (v .copied)) (wordsAt (s .arena) (v .from)) y ∙ size);
-        rows = λ i. rw (cleared-get (s .table) i) (goes-on-row 3 (rise (v .copied)) _ l tt same (cleared-passed (getD (s .table) i freshRow)) (λ y. absurd (beyond y)) (I .rows i));
+        rows = λ i. rw (cleared-get (s .table) i)
+            (goes-on-row 3 (rise (v .copied)) _ l tt same (cleared-passed (getD (s .table) i freshRow)) (λ y. absurd (beyond y)) (I .rows i));
       })
       (λ y. record {
         own = I .own;

@@ -2,37 +2,35 @@
 -- ADVANCE does. Assumes nothing.
 use mathlib.Core.Path.{_≡_, refl, sym, ap, _∙_}
 use mathlib.Core.Logic.{_≢_}
-use mathlib.Core.Bool.{Bool, true, false}
+use mathlib.Core.Bool.{true}
 use mathlib.Core.List.{List}
 use Prim.Native.Nat.{ℕ, suc, _+_, _≤_, _<_}
 use native.Mathlib.Omega.{arith}
 use lib.Dec.{eqb}
-use lib.ListN.{getD}
 use borrow.Author.Tests.{eqb-true, eqb-false}
 use Rattle.model.specs.declared.Row.{Row}
 use Rattle.model.specs.declared.Move.{Move}
 use Rattle.model.specs.Kinds.{cells}
 use Rattle.model.specs.Records.{none, header, flagged}
 use Rattle.model.specs.CellMap.{putRun}
-use Rattle.model.specs.Rows.{hold, allPassed}
+use Rattle.model.specs.Rows.{allPassed}
 use Rattle.model.specs.State.{Stage, idle, firstBarrier, copying, secondBarrier, thirdBarrier, stageOf, noMove, rise, entry, State}
 use Rattle.model.specs.Answers.{Outcome}
 use Rattle.model.specs.KeeperSteps.{barrier, startCopying, settle, callOff, giveBack, advance}
 use Rattle.model.specs.Rules.{isEarly}
-use Rattle.model.specs.Refusals.{refuse}
-use Rattle.model.specs.Steps.{Step, ADVANCE, refusals, effect, refused}
+use Rattle.model.specs.Steps.{Step, ADVANCE}
 use Rattle.model.proofs.Choice.{by-test}
 use Rattle.model.proofs.CellMap.{run-map}
 use Rattle.model.proofs.Counts.{rise-is}
-use Rattle.model.proofs.Refusals.{unless-refused}
 use Rattle.demands.specs.Log.{Client, Account}
 use Rattle.demands.proofs.Stages.{Early, Late, not-both}
-use Rattle.demands.proofs.Owners.{other, repaint, repaint-cases, owns-keep, mapped-run}
-use Rattle.demands.proofs.Inv.{Flag, HoldOK, empty, here, was, RowOK, HeadOK, own-head, flag-head, Sides, early, late, Block, in-entry, in-other, Core, Inv}
+use Rattle.demands.proofs.Owners.{repaint, repaint-cases, owns-keep, mapped-run}
+use Rattle.demands.proofs.Inv.{Flag, HoldOK, empty, here, was, RowOK, HeadOK, own-head, flag-head, Sides, early, late, Block}
+use Rattle.demands.proofs.Inv.{in-entry, in-other, Core, Inv}
 use Rattle.demands.proofs.Blocks.{meter-lt, from-kind}
 use Rattle.demands.proofs.Entries.{carry-entry}
 use Rattle.demands.proofs.RowLaws.{one-early, one-not, carry-phase, passed-get}
-use Rattle.demands.proofs.Clients.{Good}
+use Rattle.demands.proofs.Keeping.{Good, Keeps, keeps}
 use Rattle.demands.proofs.Copying.{first-inv, copy-inv}
 use Rattle.demands.proofs.Commits.{commit-inv}
 
@@ -43,7 +41,8 @@ one-side {v} (early l) (late y) = absurd (not-both v l y)
 one-side {v} (late y) (early l) = absurd (not-both v l y)
 one-side (late _) (late _) = refl
 
-module _ {X : Type 0} {dir map : List ℕ} {v : Move} {arena : List ℕ} {val : ℕ → ℕ → ℕ} {kind own : ℕ → ℕ} (C : Core X dir map v arena val kind own)
+module _ {X : Type 0} {dir map : List ℕ} {v : Move} {arena : List ℕ} {val : ℕ → ℕ → ℕ} {kind own : ℕ → ℕ}
+    (C : Core X dir map v arena val kind own)
     (down : Flag v (header arena (v .from)) → ⊥) {c d : ℕ} (b : Sides v c d) where
   plain-head : {m : ℕ} → HeadOK v m (entry dir m) (header arena (entry dir m)) → HeadOK noMove m (entry dir m) (header arena (entry dir m))
   plain-head (own-head p) = own-head p
@@ -51,16 +50,19 @@ module _ {X : Type 0} {dir map : List ℕ} {v : Move} {arena : List ℕ} {val : 
       let z : entry dir m ≡ v .from = ap (entry dir) p ∙ C .sides (early l) .home in
       absurd (down (l, ap (header arena) (sym z) ∙ h ∙ ap flagged z))
 
-  pub ended-core : Core X dir (putRun map d (cells (kind (v .meter))) 0) noMove arena val kind (repaint own d (cells (kind (v .meter))) none)
+  pub ended-core : Core X dir (putRun map d (cells (kind (v .meter))) 0) noMove arena val kind
+      (repaint own d (cells (kind (v .meter))) none)
   ended-core = record {
     entries256 = C .entries256;
     words8192 = C .words8192;
     is-map = run-map map d n 0 (C .is-map) (omega arith);
     entries = λ m y.
         let E = C .entries m y in
-        carry-entry E (owns-keep own d n none m (entry dir m) (cells (kind m)) (λ x p q e. omega (arith, C .sides b .owns x p q, meter-lt C m y)) (E .owns)) (plain-head (E .head)) (λ j _ _. refl);
+        carry-entry E (owns-keep own d n none m (entry dir m) (cells (kind m))
+        (λ x p q e. omega (arith, C .sides b .owns x p q, meter-lt C m y)) (E .owns)) (plain-head (E .head)) (λ j _ _. refl);
     mapped = mapped-run own map d n none 0 (C .is-map) (C .sides b .range) (omega arith) refl (C .mapped);
-    owned = λ x. repaint-cases (λ (i : ℕ). i ≢ none → Block dir noMove kind x i) own d n none x (λ _ _ e. absurd (e refl)) (λ o i. keep-block o (C .owned x i));
+    owned = λ x. repaint-cases (λ (i : ℕ). i ≢ none → Block dir noMove kind x i) own d n none x (λ _ _ e. absurd (e refl))
+        (λ o i. keep-block o (C .owned x i));
     idle = λ _. refl;
     sides = λ y. absurd (nowhere y);
     count = tt;
@@ -82,7 +84,8 @@ module _ {X : Type 0} {dir map : List ℕ} {v : Move} {arena : List ℕ} {val : 
       keep-block o (in-entry p q r) = in-entry p q r
       keep-block o (in-other b′ _ q r) = let e = one-side b b′ in absurd (o (omega arith) (omega arith))
 
-pub ended-row : {X : Type 0} {dir : List ℕ} {v : Move} {kind : ℕ → ℕ} {h h′ b : ℕ} {r : Row} {q : Client} → (Late v → r .passed ≡ true) → RowOK X dir v kind h b r q
+pub ended-row : {X : Type 0} {dir : List ℕ} {v : Move} {kind : ℕ → ℕ} {h h′ b : ℕ} {r : Row} {q : Client} → (Late v → r .passed ≡ true)
+    → RowOK X dir v kind h b r q
     → RowOK X dir noMove kind h′ b r q
 ended-row {dir = dir} {v = v} pass R = record {
   four = R .four;
@@ -111,7 +114,8 @@ module _ {X : Type 0} (s : State) (g : Account) (I : Inv X s g) where
       let l : Early v = rw e tt in
       let r7 = I .r7 in
       let now = one-early (isEarly v) l in
-      let up : rise (s .control .aborted) ≡ suc (s .control .aborted) = rise-is (s .control .aborted) (s .control .begun) (omega arith) (I .small) in
+      let up : rise (s .control .aborted) ≡ suc (s .control .aborted) = rise-is (s .control .aborted) (s .control .begun) (omega arith)
+      (I .small) in
       rw (from-kind (I .core) (early l)) (record {
         own = repaint (I .own) (v .target) (cells (g .kind (v .meter))) none;
         core = ended-core (I .core) (λ f. down (f .1)) (early l);
@@ -151,5 +155,5 @@ module _ {X : Type 0} (s : State) (g : Account) (I : Inv X s g) where
     by-stage secondBarrier e = beyond (settle s) (λ _. settled e)
     by-stage thirdBarrier e = beyond (giveBack s) (give-back-inv e)
 
-    pub advance-inv : Good X ADVANCE g t (refuse (refusals ADVANCE s t) (refused s) (effect ADVANCE s t))
-    advance-inv = unless-refused (Good X ADVANCE g t) (refusals ADVANCE s t) (refused s) (effect ADVANCE s t) (λ _. I) (λ _. by-stage (stageOf (v .stage)) refl)
+    pub advance-inv : Keeps X ADVANCE s g t
+    advance-inv = keeps ADVANCE s g t I (λ _. by-stage (stageOf (v .stage)) refl)

@@ -1,9 +1,9 @@
 -- A record's part of the invariant when words of the arena change: carried where its own words stay, and when a header is stored.
 -- Assumes nothing.
-use mathlib.Core.Path.{_≡_, refl, sym, ap, _∙_, subst⁻¹}
+use mathlib.Core.Path.{_≡_, sym, ap, _∙_}
 use mathlib.Core.Logic.{_≢_, ⊎-elim}
 use mathlib.Core.List.{List}
-use Prim.Native.Nat.{ℕ, _+_, _*_, _≤_, _<_}
+use Prim.Native.Nat.{ℕ, _+_, _*_, _<_}
 use native.Mathlib.Omega.{arith}
 use lib.ListN.{set}
 use Rattle.model.specs.declared.Move.{Move}
@@ -16,8 +16,10 @@ use Rattle.demands.proofs.Owners.{Owns}
 use Rattle.demands.proofs.Words.{put-at, put-else}
 use Rattle.demands.proofs.Inv.{HeadOK, EntryOK, Core}
 
-pub carry-entry : {X : Type 0} {v v′ : Move} {arena arena′ : List ℕ} {val : ℕ → ℕ → ℕ} {kind own own′ : ℕ → ℕ} {m c : ℕ} → EntryOK X v arena val kind own m c
-    → Owns own′ m c (cells (kind m)) → HeadOK v′ m c (header arena′ c) → ((j : ℕ) → 0 < j → j < 8 * cells (kind m) → word arena′ c j ≡ word arena c j)
+pub carry-entry : {X : Type 0} {v v′ : Move} {arena arena′ : List ℕ} {val : ℕ → ℕ → ℕ} {kind own own′ : ℕ → ℕ} {m c : ℕ}
+    → EntryOK X v arena val kind own m c
+    → Owns own′ m c (cells (kind m)) → HeadOK v′ m c (header arena′ c)
+    → ((j : ℕ) → 0 < j → j < 8 * cells (kind m) → word arena′ c j ≡ word arena c j)
     → EntryOK X v′ arena′ val kind own′ m c
 carry-entry {kind = kind} {m = m} E o h same =
     let z : Real (kind m) = real (kind m) (E .kinded) in
@@ -31,12 +33,21 @@ carry-entry {kind = kind} {m = m} E o h same =
     }
 
 -- another account that says the same of this meter
-pub same-account : {X : Type 0} {v : Move} {arena : List ℕ} {val val′ : ℕ → ℕ → ℕ} {kind kind′ own : ℕ → ℕ} {m c : ℕ} → kind′ m ≡ kind m → val′ m ≡ val m
+pub same-account : {X : Type 0} {v : Move} {arena : List ℕ} {val val′ : ℕ → ℕ → ℕ} {kind kind′ own : ℕ → ℕ} {m c : ℕ} → kind′ m ≡ kind m
+    → val′ m ≡ val m
     → EntryOK X v arena val kind own m c → EntryOK X v arena val′ kind′ own m c
-same-account e f E = record { kinded = rw e (E .kinded); range = rw e (E .range); label = rw e (E .label); owns = rw e (E .owns); head = E .head; vals = rw (e, f) (E .vals) }
+same-account e f E = record {
+  kinded = rw e (E .kinded);
+  range = rw e (E .range);
+  label = rw e (E .label);
+  owns = rw e (E .owns);
+  head = E .head;
+  vals = rw (e, f) (E .vals);
+}
 
 -- the header of meter a's record, at cell c, becomes w
-module _ {X : Type 0} {dir map : List ℕ} {v : Move} {arena : List ℕ} {val : ℕ → ℕ → ℕ} {kind own : ℕ → ℕ} (C : Core X dir map v arena val kind own)
+module _ {X : Type 0} {dir map : List ℕ} {v : Move} {arena : List ℕ} {val : ℕ → ℕ → ℕ} {kind own : ℕ → ℕ}
+    (C : Core X dir map v arena val kind own)
     (a c : ℕ) (e : entry dir a ≡ c) (here : c < 1024) (w : ℕ) where
   pub old-entry : EntryOK X v arena val kind own a c
   old-entry = rw e at (C .entries a (λ z. omega arith))
@@ -48,14 +59,17 @@ module _ {X : Type 0} {dir map : List ℕ} {v : Move} {arena : List ℕ} {val : 
   stored-head = let z = old-real in put-at arena c 0 w (cells (kind a)) (C .words8192) (old-entry .range) (omega arith)
 
   -- the words of other blocks, and the other words of this one
-  pub stored-else : (i d n j : ℕ) → Owns own i d n → j < 8 * n → (a ≡ i → (c ≡ d) × (j ≢ 0)) → word (set arena (place c 0) w) d j ≡ word arena d j
+  pub stored-else : (i d n j : ℕ) → Owns own i d n → j < 8 * n → (a ≡ i → (c ≡ d) × (j ≢ 0))
+      → word (set arena (place c 0) w) d j ≡ word arena d j
   stored-else i d n j o b f = let z = old-real in put-else own arena a c (cells (kind a)) 0 w i d n j (old-entry .owns) o (omega arith) b f
 
-  pub stored-entry : {v′ : Move} {own′ : ℕ → ℕ} (m : ℕ) → entry dir m ≢ none → Owns own′ m (entry dir m) (cells (kind m)) → (m ≡ a → HeadOK v′ a c w)
+  pub stored-entry : {v′ : Move} {own′ : ℕ → ℕ} (m : ℕ) → entry dir m ≢ none → Owns own′ m (entry dir m) (cells (kind m))
+      → (m ≡ a → HeadOK v′ a c w)
       → (m ≢ a → HeadOK v m (entry dir m) (header arena (entry dir m)) → HeadOK v′ m (entry dir m) (header arena (entry dir m)))
       → EntryOK X v′ (set arena (place c 0) w) val kind own′ m (entry dir m)
   stored-entry {v′} m n o h keep =
-      carry-entry E o (⊎-elim same other (same-or-not m a)) (λ j p q. stored-else m (entry dir m) (cells (kind m)) j (E .owns) q (λ z. (at-c (sym z), λ y. omega arith)))
+      carry-entry E o (⊎-elim same other (same-or-not m a))
+      (λ j p q. stored-else m (entry dir m) (cells (kind m)) j (E .owns) q (λ z. (at-c (sym z), λ y. omega arith)))
     where
       E : EntryOK X v arena val kind own m (entry dir m)
       E = C .entries m n

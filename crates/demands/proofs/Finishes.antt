@@ -1,9 +1,9 @@
 -- GO of a ready client keeps the invariant: the access goes to the meter's own record, or, in the third barrier and of no concern to
 -- demand 2, to the old block; a write is then the last one to its word. A read that finishes gives the last value written.
 -- Assumes nothing.
-use mathlib.Core.Path.{_≡_, refl, sym, ap, _∙_, subst}
+use mathlib.Core.Path.{_≡_, refl, sym, ap, _∙_}
 use mathlib.Core.Logic.{_≢_}
-use mathlib.Core.Bool.{Bool, true, false, not}
+use mathlib.Core.Bool.{true, false, not}
 use mathlib.Core.List.{List}
 use Prim.Native.Nat.{ℕ, pred, _+_, _*_, _≤_, _<_}
 use native.Mathlib.Omega.{arith}
@@ -14,29 +14,26 @@ use Rattle.model.specs.declared.Access.{Access}
 use Rattle.model.specs.declared.Access.the-variants.{Read, Write}
 use Rattle.model.specs.declared.Phase.{Phase}
 use Rattle.model.specs.declared.Phase.the-variants.{Resting}
-use Rattle.model.specs.declared.Row.{Row}
 use Rattle.model.specs.declared.Move.{Move}
 use Rattle.model.specs.declared.Stepped.{Stepped}
 use Rattle.model.specs.Kinds.{cells, payload}
 use Rattle.model.specs.Records.{none, place, word, header}
-use Rattle.model.specs.Rows.{holdOf, wordOf, busy, hold, freshRow, withPhase}
+use Rattle.model.specs.Rows.{holdOf, wordOf, busy, freshRow, withPhase}
 use Rattle.model.specs.State.{State, entry}
 use Rattle.model.specs.ClientSteps.{finish, go}
-use Rattle.model.specs.Refusals.{refuse}
-use Rattle.model.specs.Steps.{Step, GO, ownRow, refusals, seated, effect, refused}
+use Rattle.model.specs.Steps.{Step, GO, ownRow, seated}
 use Rattle.model.proofs.Choice.{by-test, clash}
-use Rattle.model.proofs.ByKind.{Real, real}
-use Rattle.model.proofs.Refusals.{unless-refused}
-use Rattle.demands.specs.Log.{noAccess, Client, Account, update, clientOf, withPending, told}
+use Rattle.model.proofs.ByKind.{real}
+use Rattle.demands.specs.Log.{noAccess, Account, update, clientOf, withPending, told}
 use Rattle.demands.proofs.Stages.{Early, Late, not-both}
 use Rattle.demands.proofs.Lists.{set-both}
 use Rattle.demands.proofs.Owners.{other, Owns}
 use Rattle.demands.proofs.Words.{put-at, put-else}
-use Rattle.demands.proofs.Inv.{Flag, HoldOK, empty, here, was, Place, at-entry, at-hold, ReadyOK, PhaseOK, rests, ready, waits, RowOK, EntryOK, early, late, Core, Inv}
-use Rattle.demands.proofs.Blocks.{meter-lt, home-lt, home-in, home-entry, home-real, side-apart, copied-fit, first-uncopied, held-in, entry-range}
-use Rattle.demands.proofs.Entries.{carry-entry}
-use Rattle.demands.proofs.Clients.{Good}
-use Rattle.demands.proofs.RowLaws.{RowIn, reflag-row, row-in}
+use Rattle.demands.proofs.Inv.{Flag, HoldOK, empty, here, was, Place, at-entry, at-hold, rests, ready, waits, RowOK, EntryOK}
+use Rattle.demands.proofs.Inv.{early, late, Core, Inv}
+use Rattle.demands.proofs.Blocks.{meter-lt, home-in, home-entry, home-real, side-apart, copied-fit, first-uncopied, held-in}
+use Rattle.demands.proofs.Keeping.{Keeps, keeps}
+use Rattle.demands.proofs.RowLaws.{oldHeader, PhaseIn, ReadyIn, RowIn, reflag-row, row-in}
 use Rattle.demands.proofs.Swaps.{swap-inv}
 
 -- the block that an access to meter m goes to: owner i's, at cell c
@@ -48,7 +45,8 @@ pub record Spot (X : Type 0) (dir : List ℕ) (v : Move) (kind own : ℕ → ℕ
   pub side : i ≡ other → Late v × (c ≡ v .from)
   pub mine : X → i ≡ m
 
-module _ {X : Type 0} {dir map : List ℕ} {v : Move} {arena : List ℕ} {val : ℕ → ℕ → ℕ} {kind own : ℕ → ℕ} (C : Core X dir map v arena val kind own) where
+module _ {X : Type 0} {dir map : List ℕ} {v : Move} {arena : List ℕ} {val : ℕ → ℕ → ℕ} {kind own : ℕ → ℕ}
+    (C : Core X dir map v arena val kind own) where
   own-spot : {m c : ℕ} → entry dir m ≡ c → c ≢ none → Spot X dir v kind own m m c
   own-spot {m} {c} e n =
       let E : EntryOK X v arena val kind own m c = rw e at (C .entries m (λ z. n (sym e ∙ z))) in
@@ -80,14 +78,17 @@ module _ {X : Type 0} {dir map : List ℕ} {v : Move} {arena : List ℕ} {val : 
       )
 
 -- what a finished write does to the words: the heart of demand 2
-module _ {X : Type 0} {dir map : List ℕ} {v : Move} {arena : List ℕ} {val : ℕ → ℕ → ℕ} {kind own : ℕ → ℕ} (C : Core X dir map v arena val kind own)
+module _ {X : Type 0} {dir map : List ℕ} {v : Move} {arena : List ℕ} {val : ℕ → ℕ → ℕ} {kind own : ℕ → ℕ}
+    (C : Core X dir map v arena val kind own)
     (i m c w u : ℕ) (S : Spot X dir v kind own i m c) (fits : w < payload (kind m)) where
   abbrev arena′ : List ℕ
   arena′ = set arena (place c (2 + w)) u
 
   -- the words of other blocks, and the other words of this one
   else : (i′ d n j : ℕ) → Owns own i′ d n → j < 8 * n → (i ≡ i′ → (c ≡ d) × (j ≢ 2 + w)) → word arena′ d j ≡ word arena d j
-  else i′ d n j o b f = let z = real (kind m) (S .kinded) in put-else own arena i c (cells (kind m)) (2 + w) u i′ d n j (S .owns) o (omega arith) b f
+  else i′ d n j o b f =
+      let z = real (kind m) (S .kinded) in
+      put-else own arena i c (cells (kind m)) (2 + w) u i′ d n j (S .owns) o (omega arith) b f
 
   pub home-head : Early v → header arena′ (v .from) ≡ header arena (v .from)
   home-head l =
@@ -96,7 +97,8 @@ module _ {X : Type 0} {dir map : List ℕ} {v : Move} {arena : List ℕ} {val : 
       (λ y. (S .entry (v .meter) (home-in C (early l)) y ∙ C .sides (early l) .home, λ k. omega arith))
 
   target-word : Early v → (k : ℕ) → k < 8 * cells (kind (v .meter)) → word arena′ (v .target) k ≡ word arena (v .target) k
-  target-word l k b = else other (v .target) (cells (kind (v .meter))) k (C .sides (early l) .owns) b (λ y. absurd (not-both v l (S .side y .0)))
+  target-word l k b = else other (v .target) (cells (kind (v .meter))) k (C .sides (early l) .owns) b
+      (λ y. absurd (not-both v l (S .side y .0)))
 
   from-word : (l : Late v) (k : ℕ) → k < 2 → word arena′ (v .from) k ≡ word arena (v .from) k
   from-word l k b =
@@ -127,7 +129,8 @@ module _ {X : Type 0} {dir map : List ℕ} {v : Move} {arena : List ℕ} {val : 
             (λ p. same (2 + j) (omega arith) (λ e. absurd (eqb-false n m p (sym e ∙ S .mine x))) ∙ E .vals x j b);
       }
 
-  pub written-core : (X → Flag v (header arena (v .from)) → 0 < v .copied → c ≢ v .from) → Core X dir map v arena′ (update val m (update (val m) w u)) kind own
+  pub written-core : (X → Flag v (header arena (v .from)) → 0 < v .copied → c ≢ v .from)
+      → Core X dir map v arena′ (update val m (update (val m) w u)) kind own
   written-core away = record {
     entries256 = C .entries256;
     words8192 = length-set arena (place c (2 + w)) u ∙ C .words8192;
@@ -158,17 +161,19 @@ module _ {X : Type 0} (s : State) (g : Account) (t : Step) (I : Inv X s g) (seat
   abbrev Next : Stepped → Type 0
   Next o = Inv X (seated s t o .next) (told GO g t (o .answer))
 
-  module _ (c : ℕ) (x : Access) (W : ReadyOK X (s .control .dir) (s .control .mv) (g .kind) (header (s .arena) (s .control .mv .from)) (ownRow s t) (clientOf g t) c x) where
+  module _ (c : ℕ) (x : Access) (W : ReadyIn X s g t c x) where
     pub spot-of : (i : ℕ) × Spot X (s .control .dir) (s .control .mv) (g .kind) (I .own) i (clientOf g t .opened (holdOf x)) c
     spot-of = spot (I .core) (R .holds (holdOf x)) (W .asked .filled) (W .place) (W .newest)
 
     -- the rows when the access is done, where the old header is h
-    rested : (h : ℕ) → (Early (s .control .mv) → h ≡ header (s .arena) (s .control .mv .from)) → (i : ℕ)
-        → RowOK X (s .control .dir) (s .control .mv) (g .kind) h (s .control .begun) (getD (set (s .table) (pred (t .who)) (withPhase (ownRow s t) Resting)) i freshRow)
+    rested : (h : ℕ) → (Early (s .control .mv) → h ≡ oldHeader s) → (i : ℕ)
+        → RowOK X (s .control .dir) (s .control .mv) (g .kind) h (s .control .begun)
+        (getD (set (s .table) (pred (t .who)) (withPhase (ownRow s t) Resting)) i freshRow)
         (update (g .clients) (pred (t .who)) (withPending (clientOf g t) noAccess) i)
     rested h e i =
         reflag-row (λ f. (f .0, sym (e (f .0)) ∙ f .1))
-        (set-both (RowIn X s g) (s .table) (g .clients) (pred (t .who)) (withPhase (ownRow s t) Resting) (withPending (clientOf g t) noAccess) freshRow (omega (arith, I .eight))
+        (set-both (RowIn X s g) (s .table) (g .clients) (pred (t .who)) (withPhase (ownRow s t) Resting)
+        (withPending (clientOf g t) noAccess) freshRow (omega (arith, I .eight))
         (record {
           four = R .four;
           holds = R .holds;
@@ -180,10 +185,10 @@ module _ {X : Type 0} (s : State) (g : Account) (t : Step) (I : Inv X s g) (seat
         })
         (I .rows) i)
 
-    away : X → Flag (s .control .mv) (header (s .arena) (s .control .mv .from)) → 0 < s .control .mv .copied → c ≢ s .control .mv .from
+    away : X → Flag (s .control .mv) (oldHeader s) → 0 < s .control .mv .copied → c ≢ s .control .mv .from
     away y f p = W .away y f (λ z. absurd (omega (arith, first-uncopied (I .core) z)))
 
-  finish-inv : (c : ℕ) (x : Access) → ReadyOK X (s .control .dir) (s .control .mv) (g .kind) (header (s .arena) (s .control .mv .from)) (ownRow s t) (clientOf g t) c x
+  finish-inv : (c : ℕ) (x : Access) → ReadyIn X s g t c x
       → Next (finish (s .arena) (ownRow s t) c x)
   finish-inv c (Read h w) W = rw (W .asked .pending) (record {
     own = I .own;
@@ -191,7 +196,7 @@ module _ {X : Type 0} (s : State) (g : Account) (t : Step) (I : Inv X s g) (seat
     eight = length-set (s .table) (pred (t .who)) _ ∙ I .eight;
     r7 = I .r7;
     small = I .small;
-    rows = rested c (Read h w) W (header (s .arena) (s .control .mv .from)) (λ _. refl);
+    rows = rested c (Read h w) W (oldHeader s) (λ _. refl);
   })
   finish-inv c (Write h w u) W = rw (W .asked .pending) (let S = spot-of c (Write h w u) W in record {
     own = I .own;
@@ -203,19 +208,20 @@ module _ {X : Type 0} (s : State) (g : Account) (t : Step) (I : Inv X s g) (seat
         (home-head (I .core) (S .0) (clientOf g t .opened h) c w u (S .1) (W .asked .fits));
   })
 
-  by-phase : {p : Phase} → PhaseOK X (s .control .dir) (s .control .mv) (g .kind) (header (s .arena) (s .control .mv .from)) (s .control .begun) (ownRow s t) (clientOf g t) p
+  by-phase : {p : Phase} → PhaseIn X s g t p
       → not (ownRow s t .attached) ≡ false → not (busy p) ≡ false → Next (go (s .arena) (ownRow s t) p)
   by-phase (rests e) a b = clash true refl b
   by-phase (ready {c = c} {x = x} W) a b = finish-inv c x W
   by-phase (waits {c = c} {x = x} W) a b = swap-inv s g t I seat (not-false (ownRow s t .attached) a) c x W
 
-  pub go-inv : Good X GO g t (refuse (refusals GO s t) (refused s) (effect GO s t))
-  go-inv = unless-refused (Good X GO g t) (refusals GO s t) (refused s) (effect GO s t) (λ _. I) (λ k. by-phase (R .phase) (k .0) (k .1 .0))
+  pub go-inv : Keeps X GO s g t
+  go-inv = keeps GO s g t I (λ k. by-phase (R .phase) (k .0) (k .1 .0))
 
   -- demand 2, at the step that finishes a read
   pub read-right : {c : ℕ} {x : Access} → X
-      → ReadyOK X (s .control .dir) (s .control .mv) (g .kind) (header (s .arena) (s .control .mv .from)) (ownRow s t) (clientOf g t) c x
+      → ReadyIn X s g t c x
       → word (s .arena) c (2 + wordOf x) ≡ g .lastWritten (clientOf g t .opened (holdOf x)) (wordOf x)
   read-right {c} {x} y W =
       let e = W .newest y in
-      rw (← e) (I .core .entries (clientOf g t .opened (holdOf x)) (held-in (I .core) (R .holds (holdOf x)) (W .asked .filled)) .vals y (wordOf x) (W .asked .fits))
+      rw (← e) (I .core .entries (clientOf g t .opened (holdOf x)) (held-in (I .core) (R .holds (holdOf x)) (W .asked .filled)) .vals y
+      (wordOf x) (W .asked .fits))

@@ -2,7 +2,7 @@
 -- invariant gives demand 2, with X = ⊥ it is R1 to R8.
 use mathlib.Core.Path.{_≡_}
 use mathlib.Core.Logic.{_≢_}
-use mathlib.Core.Bool.{Bool, true, false}
+use mathlib.Core.Bool.{true, false}
 use mathlib.Core.List.{List}
 use Prim.Native.Nat.{ℕ, suc, _+_, _^_, _≤_, _<_}
 use lib.ListN.{length, getD}
@@ -18,7 +18,7 @@ use Rattle.model.specs.Rows.{holdOf, wordOf, hold, freshRow}
 use Rattle.model.specs.State.{Stage, idle, firstBarrier, copying, secondBarrier, thirdBarrier, stageOf, noMove, entry, State}
 use Rattle.model.specs.Rules.{isEarly}
 use Rattle.model.proofs.CellMap.{IsMap}
-use Rattle.demands.specs.Log.{Pending, noAccess, accessTo, Client, Account}
+use Rattle.demands.specs.Log.{noAccess, accessTo, Client, Account}
 use Rattle.demands.proofs.Stages.{Idle, First, Early, Late}
 use Rattle.demands.proofs.Owners.{other, Owns, Mapped}
 
@@ -140,6 +140,7 @@ pub record Inv (X : Type 0) (s : State) (g : Account) : Type 0 where
   pub own : ℕ → ℕ
   pub core : Core X (s .control .dir) (s .control .map) (s .control .mv) (s .arena) (g .lastWritten) (g .kind) own
   pub eight : length (s .table) ≡ 8
-  pub rows : Rows X (s .control .dir) (s .control .mv) (g .kind) (header (s .arena) (s .control .mv .from)) (s .control .begun) (s .table) (g .clients)
+  pub rows : Rows X (s .control .dir) (s .control .mv) (g .kind) (header (s .arena) (s .control .mv .from)) (s .control .begun)
+      (s .table) (g .clients)
   pub r7 : s .control .begun ≡ s .control .committed + s .control .aborted + one (isEarly (s .control .mv))
   pub small : s .control .begun < 2 ^ 32

@@ -6,6 +6,7 @@ pub mod Inv
 pub mod Blocks
 pub mod Entries
 pub mod RowLaws
+pub mod Keeping
 pub mod Clients
 pub mod Swaps
 pub mod Finishes
@@ -15,8 +16,15 @@ pub mod Commits
 pub mod Ends
 pub mod Admits
 pub mod Always
+pub mod Did
+pub mod MoveCounts
+pub mod SwapCounts
+pub mod Accesses
+pub mod LastWritten
 pub mod Cover
 pub mod FromRules
 pub mod ToRules
 pub mod Kept
 pub mod Runs
+pub mod Promised
+pub mod KeptOut

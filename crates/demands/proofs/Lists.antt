@@ -8,7 +8,7 @@ use native.Mathlib.Omega.{arith}
 use lib.ListN.{length, getD, set, replicate}
 use lib.Seq.{getD-set-same, getD-set-other}
 use borrow.Author.Tests.{eq-eqb, ne-eqb}
-use Rattle.model.specs.Choice.{_or_, any, all}
+use Rattle.model.specs.Choice.{_and_, _or_, any, all}
 use Rattle.model.proofs.Choice.{same-or-not, clash, and-parts}
 use Rattle.demands.specs.Log.{update}
 
@@ -27,9 +27,14 @@ or-parts : (p q : Bool) → (p or q) ≡ false → (p ≡ false) × (q ≡ false
 or-parts true q e = clash true refl e
 or-parts false q e = (refl, e)
 
+pub and-false : (p : Bool) → (p and false) ≡ false
+and-false true = refl
+and-false false = refl
+
 module _ {A : Type 0} where
   -- after a store: the new value there, the old one elsewhere
-  pub set-cases : (P : ℕ → A → Type 0) (l : List A) (i : ℕ) (a d : A) → i < length l → P i a → ((j : ℕ) → j ≢ i → P j (getD l j d)) → (j : ℕ) → P j (getD (set l i a) j d)
+  pub set-cases : (P : ℕ → A → Type 0) (l : List A) (i : ℕ) (a d : A) → i < length l → P i a → ((j : ℕ) → j ≢ i → P j (getD l j d))
+      → (j : ℕ) → P j (getD (set l i a) j d)
   set-cases P l i a d h new old j =
       ⊎-elim (λ (e : j ≡ i). subst⁻¹ (λ (n : ℕ). P n (getD (set l i a) n d)) e (subst⁻¹ (P i) (getD-set-same l i a d h) new))
       (λ (ne : j ≢ i). subst⁻¹ (P j) (getD-set-other l i j a d ne) (old j ne)) (same-or-not j i)

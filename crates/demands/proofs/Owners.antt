@@ -1,7 +1,7 @@
 -- Who owns a cell: a function, so that no cell lies in two blocks. A meter owns its record's cells; `other` owns the move's other
 -- block; `none` is nobody. The map's bit of a cell says whether somebody owns it. Assumes nothing.
-use mathlib.Core.Path.{_≡_, refl, sym, ap, _∙_, subst}
-use mathlib.Core.Logic.{_≢_, _⊎_, inl, inr, ⊎-elim}
+use mathlib.Core.Path.{_≡_, refl, sym, ap, _∙_}
+use mathlib.Core.Logic.{_≢_, inl, inr, ⊎-elim}
 use mathlib.Core.List.{List}
 use Prim.Native.Nat.{ℕ, _+_, _-_, _≤_, _<_}
 use native.Mathlib.Omega.{arith}
@@ -31,7 +31,8 @@ Mapped own map = (x : ℕ) → x < 1024 → used map x ≡ bitOf (own x)
 unfoldable pub repaint : (ℕ → ℕ) → ℕ → ℕ → ℕ → ℕ → ℕ
 repaint own c n i x = pick (leb c x) (pick (ltb x (c + n)) i (own x)) (own x)
 
-pub repaint-cases : (P : ℕ → Type 0) (own : ℕ → ℕ) (c n i x : ℕ) → (c ≤ x → x < c + n → P i) → ((c ≤ x → x < c + n → ⊥) → P (own x)) → P (repaint own c n i x)
+pub repaint-cases : (P : ℕ → Type 0) (own : ℕ → ℕ) (c n i x : ℕ) → (c ≤ x → x < c + n → P i) → ((c ≤ x → x < c + n → ⊥) → P (own x))
+    → P (repaint own c n i x)
 unfolding repaint
 repaint-cases P own c n i x f g =
     by-test P (leb c x)
@@ -42,7 +43,8 @@ pub repaint-in : (own : ℕ → ℕ) (c n i : ℕ) → Owns (repaint own c n i) 
 repaint-in own c n i x a b = repaint-cases (λ (j : ℕ). j ≡ i) own c n i x (λ _ _. refl) (λ h. absurd (h a b))
 
 -- a block that the paint does not touch
-pub owns-keep : (own : ℕ → ℕ) (c n j i d m : ℕ) → ((x : ℕ) → c ≤ x → x < c + n → own x ≢ i) → Owns own i d m → Owns (repaint own c n j) i d m
+pub owns-keep : (own : ℕ → ℕ) (c n j i d m : ℕ) → ((x : ℕ) → c ≤ x → x < c + n → own x ≢ i) → Owns own i d m
+    → Owns (repaint own c n j) i d m
 owns-keep own c n j i d m h o x a b = repaint-cases (λ (k : ℕ). k ≡ i) own c n j x (λ p q. absurd (h x p q (o x a b))) (λ _. o x a b)
 
 -- the map and the owners when a run is taken, b = 1, or given back, b = 0
@@ -52,12 +54,14 @@ mapped-run own map c n i b m fits small e h x lt =
     repaint-cases (λ (j : ℕ). used (putRun map c n b) x ≡ bitOf j) own c n i x
     (λ p q. let z : c + (x - c) ≡ x = omega arith in
     ap (used (putRun map c n b)) (sym z) ∙ used-run map c n b (x - c) m fits small (omega arith) ∙ sym e)
-    (λ o. used-run-other map c n b x small (⊎-elim inl (λ (p : c ≤ x). inr (⊎-elim (λ q. absurd (o p q)) (λ q. q) (order x (c + n)))) (order x c)) ∙ h x lt)
+    (λ o. used-run-other map c n b x small
+    (⊎-elim inl (λ (p : c ≤ x). inr (⊎-elim (λ q. absurd (o p q)) (λ q. q) (order x (c + n)))) (order x c)) ∙ h x lt)
 
 -- nobody owns a free cell
 pub free-unowned : (own : ℕ → ℕ) (map : List ℕ) → Mapped own map → (x : ℕ) → x < 1024 → used map x ≡ 0 → own x ≡ none
 free-unowned own map h x lt e =
-    by-test (λ (b : ℕ). used map x ≡ b → own x ≡ none) (eqb (own x) none) (λ t _. eqb-true (own x) none t) (λ _ z. absurd (omega arith)) (h x lt)
+    by-test (λ (b : ℕ). used map x ≡ b → own x ≡ none) (eqb (own x) none) (λ t _. eqb-true (own x) none t) (λ _ z. absurd (omega arith))
+    (h x lt)
 
 pub run-unowned : (own : ℕ → ℕ) (map : List ℕ) (n c : ℕ) → Mapped own map → FreeRun map n c → Owns own none c n
 run-unowned own map n c h run x p q = free-unowned own map h x (omega (arith, run .within)) (run .free x p q)
@@ -74,6 +78,5 @@ exchange-cases P a b i f g h =
 
 pub mapped-exchange : (own : ℕ → ℕ) (map : List ℕ) (a b : ℕ) → a ≢ none → b ≢ none → Mapped own map → Mapped (λ x. exchange a b (own x)) map
 mapped-exchange own map a b p q h x lt =
-    h x lt
-    ∙ exchange-cases (λ i j. bitOf i ≡ bitOf j) a b (own x)
+    h x lt ∙ exchange-cases (λ i j. bitOf i ≡ bitOf j) a b (own x)
     (λ e. rw (e, ne-eqb a none p, ne-eqb b none q)) (λ e. rw (e, ne-eqb a none p, ne-eqb b none q)) (λ _ _. refl)

@@ -1,33 +1,42 @@
 -- How one row's part of the invariant is read, made and carried from step to step. Assumes nothing.
-use mathlib.Core.Path.{_≡_, refl, sym, _∙_, subst⁻¹}
-use mathlib.Core.Logic.{_≢_}
+use mathlib.Core.Path.{_≡_, refl, _∙_, subst⁻¹}
 use mathlib.Core.Bool.{Bool, true, false, not}
 use mathlib.Core.List.{List}
-use Prim.Native.Nat.{ℕ, pred, _+_, _≤_, _<_}
+use Prim.Native.Nat.{ℕ, pred, _≤_, _<_}
 use native.Mathlib.Omega.{arith}
 use lib.Dec.{T}
-use lib.ListN.{length, getD, set, length-set, List·getD-map}
+use lib.ListN.{length, getD, length-set, List·getD-map}
 use Rattle.model.specs.declared.Access.{Access}
 use Rattle.model.specs.declared.Phase.{Phase}
-use Rattle.model.specs.declared.Phase.the-variants.{Resting, Ready, Waiting}
+use Rattle.model.specs.declared.Phase.the-variants.{Resting, Ready}
 use Rattle.model.specs.declared.Row.{Row}
 use Rattle.model.specs.declared.Move.{Move}
 use Rattle.model.specs.Choice.{one}
 use Rattle.model.specs.Records.{none, header}
 use Rattle.model.specs.Rows.{busy, hold, freshRow, withPassed, cleared, clearMarks, hasPassed, allPassed}
-use Rattle.model.specs.State.{State, withRow, rowOf}
+use Rattle.model.specs.State.{State, withRow}
 use Rattle.model.specs.Steps.{Step, ownRow}
-use Rattle.model.specs.Rules.{isEarly}
 use Rattle.model.proofs.Choice.{clash}
 use Rattle.demands.specs.Log.{noAccess, Client, Account, newClient, clientOf, withClient}
-use Rattle.demands.proofs.Stages.{Early, Late}
 use Rattle.demands.proofs.Lists.{set-cases, set-both, all-get}
 use Rattle.demands.proofs.Blocks.{side-lt}
-use Rattle.demands.proofs.Inv.{Flag, HoldOK, empty, Asked, ReadyOK, WaitingOK, PhaseOK, rests, ready, waits, Detached, RowOK, late, Core, Rows, Inv}
+use Rattle.demands.proofs.Inv.{Flag, empty, ReadyOK, WaitingOK, PhaseOK, rests, ready, waits, Detached, RowOK, late, Inv}
 
--- what the invariant says of row r and client q in state s
+-- what the invariant says, in state s, of row r and client q, and of the phase of the row whose step it is
+abbrev pub oldHeader : State → ℕ
+oldHeader s = header (s .arena) (s .control .mv .from)
+
 abbrev pub RowIn : Type 0 → State → Account → Row → Client → Type 0
-RowIn X s g r q = RowOK X (s .control .dir) (s .control .mv) (g .kind) (header (s .arena) (s .control .mv .from)) (s .control .begun) r q
+RowIn X s g r q = RowOK X (s .control .dir) (s .control .mv) (g .kind) (oldHeader s) (s .control .begun) r q
+
+abbrev pub PhaseIn : Type 0 → State → Account → Step → Phase → Type 0
+PhaseIn X s g t p = PhaseOK X (s .control .dir) (s .control .mv) (g .kind) (oldHeader s) (s .control .begun) (ownRow s t) (clientOf g t) p
+
+abbrev pub ReadyIn : Type 0 → State → Account → Step → ℕ → Access → Type 0
+ReadyIn X s g t c x = ReadyOK X (s .control .dir) (s .control .mv) (g .kind) (oldHeader s) (ownRow s t) (clientOf g t) c x
+
+abbrev pub WaitingIn : State → Account → Step → ℕ → Access → Type 0
+WaitingIn s g t c x = WaitingOK (s .control .mv) (g .kind) (oldHeader s) (s .control .begun) (ownRow s t) (clientOf g t) c x
 
 pub one-early : (b : Bool) → T b → one b ≡ 1
 one-early true t = refl
@@ -71,7 +80,8 @@ reflag-row f R = record {
 }
 
 -- marks: a row with another mark, which an unattached one keeps; a table with its marks cleared; a table whose rows have all passed
-pub marked : (r : Row) (p : Bool) → (r .attached ≡ false → p ≡ true) → (r .attached ≡ false → Detached r) → r .attached ≡ false → Detached (withPassed r p)
+pub marked : (r : Row) (p : Bool) → (r .attached ≡ false → p ≡ true) → (r .attached ≡ false → Detached r) → r .attached ≡ false
+    → Detached (withPassed r p)
 marked r p e d z = record { passed = e z; empty = d z .empty; rests = d z .rests }
 
 pub cleared-passed : (r : Row) → r .attached ≡ false → not (r .attached) ≡ true
@@ -84,14 +94,12 @@ pub passed-get : (table : List Row) → allPassed table ≡ true → (i : ℕ) �
 passed-get table e = all-get hasPassed table freshRow e refl
 
 module _ {X : Type 0} {s : State} {g : Account} (I : Inv X s g) where
-  pub begun-early : Early (s .control .mv) → 0 < s .control .begun
-  begun-early l = omega (arith, I .r7, one-early (isEarly (s .control .mv)) l)
-
   pub row-in : (t : Step) → RowIn X s g (ownRow s t) (clientOf g t)
   row-in t = I .rows (pred (t .who))
 
   -- a row without holds that rests, of a client that has opened nothing
-  pub empty-row : (r : Row) → ((i : ℕ) → hold r i ≡ none) → length (r .holds) ≡ 4 → r .passed ≡ true → r .phase ≡ Resting → r .swaps ≤ s .control .begun
+  pub empty-row : (r : Row) → ((i : ℕ) → hold r i ≡ none) → length (r .holds) ≡ 4 → r .passed ≡ true → r .phase ≡ Resting
+      → r .swaps ≤ s .control .begun
       → (Flag (s .control .mv) (header (s .arena) (s .control .mv .from)) → r .swaps < s .control .begun) → RowIn X s g r newClient
   empty-row r n f p e le lt = record {
     four = f;
@@ -122,5 +130,6 @@ module _ {X : Type 0} {s : State} {g : Account} (I : Inv X s g) where
       eight = length-set (s .table) (pred (t .who)) r ∙ I .eight;
       r7 = I .r7;
       small = I .small;
-      rows = set-cases (λ j x. RowIn X s g x (g .clients j)) (s .table) (pred (t .who)) r freshRow (omega (arith, I .eight)) ok (λ j _. I .rows j);
+      rows = set-cases (λ j x. RowIn X s g x (g .clients j)) (s .table) (pred (t .who)) r freshRow (omega (arith, I .eight)) ok
+          (λ j _. I .rows j);
     }

@@ -52,16 +52,14 @@ follows true false r t a b = absurd b
 follows false q r t a b = absurd a
 
 -- where p and q hold of a move's stage, so does r: `tt` proves it where it does at each of the five
-pub at-stage : (p q r : Stage → Bool) → T (all (λ g. p g ⇒ q g ⇒ r g) stages) → (n : ℕ) → T (p (stageOf n)) → T (q (stageOf n)) → T (r (stageOf n))
+pub at-stage : (p q r : Stage → Bool) → T (all (λ g. p g ⇒ q g ⇒ r g) stages) → (n : ℕ) → T (p (stageOf n)) → T (q (stageOf n))
+    → T (r (stageOf n))
 at-stage p q r t n =
     follows (p (stageOf n)) (q (stageOf n)) (r (stageOf n))
     (all-stages (λ g. p g ⇒ q g ⇒ r g) stages t n idle (both (p idle ⇒ q idle ⇒ r idle) _ t .0))
 
 pub not-both : (v : Move) → Early v → Late v → ⊥
 not-both v = at-stage early late never tt (v .stage)
-
-pub first-early : (v : Move) → First v → Early v
-first-early v l = at-stage first first early tt (v .stage) l l
 
 -- with no move in hand
 pub idle-of : (v : Move) → inHand (stageOf (v .stage)) ≡ false → Idle v

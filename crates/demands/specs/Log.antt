@@ -1,18 +1,20 @@
 -- The log: the steps from fresh with what each was answered, and what it says. No word of the arena stands here.
-use mathlib.Core.Bool.{Bool, true, false}
 use mathlib.Core.List.{List, [], _∷_}
-use Prim.Native.Nat.{ℕ, pred}
-use lib.Dec.{eqb}
+use Prim.Native.Nat.{ℕ, suc, pred}
+use lib.Dec.{eqb, leb}
 use Rattle.model.specs.declared.Access.{Access}
 use Rattle.model.specs.declared.Access.the-variants.{Read, Write}
 use Rattle.model.specs.declared.Answer.{Answer}
-use Rattle.model.specs.declared.Answer.the-variants.{Refused, Admitted, Begun, BarrierOpen, CopyingStarts, Copied, Committed, CalledOff, GivenBack, Done, ReadyAt, WaitsOn, SwapWon, SwapLost, Got, Written}
-use Rattle.model.specs.Choice.{pick}
+use Rattle.model.specs.declared.Answer.the-variants.{Refused, Admitted, Begun, BarrierOpen, CopyingStarts, Copied, Committed, CalledOff}
+use Rattle.model.specs.declared.Answer.the-variants.{GivenBack, Done, ReadyAt, WaitsOn, SwapWon, SwapLost, Got, Written}
+use Rattle.model.specs.Choice.{pick, _and_, _or_, one, total}
 use Rattle.model.specs.Records.{none}
-use Rattle.model.specs.Rows.{holdOf}
+use Rattle.model.specs.Rows.{holdOf, wordOf}
 use Rattle.model.specs.State.{State}
+use Rattle.model.specs.Answers.{number}
 use Rattle.model.specs.Fresh.{fresh}
-use Rattle.model.specs.Steps.{Step, Name, ADMIT, RETIRE, BEGIN, ADVANCE, ATTACH, DETACH, OPEN, DROP, READ, WRITE, GO, REST, UNKNOWN, NOBODY, nameOf, act}
+use Rattle.model.specs.Steps.{Step, Name, ADMIT, RETIRE, BEGIN, ADVANCE, ATTACH, DETACH, OPEN, DROP, READ, WRITE, GO, REST, UNKNOWN}
+use Rattle.model.specs.Steps.{NOBODY, nameOf, act}
 
 -- a line: a step and its answer. The last line stands first.
 pub record Line : Type 0 where
@@ -133,3 +135,37 @@ told n g t Written = doneBy n g t
 abbrev pub said : Log → Account
 said [] = newAccount
 said (x ∷ l) = told (nameOf (x .step)) (said l) (x .step) (x .answer)
+
+-- the last value written to the word of an access
+abbrev pub lastFor : Account → Pending → ℕ
+lastFor g noAccess = 0
+lastFor g (accessTo m x) = g .lastWritten m (wordOf x)
+
+-- how many lines have the answer n; how many of party who's lines
+abbrev pub answered : ℕ → Log → ℕ
+answered n l = total (λ x. one (eqb (number (x .answer)) n)) l
+
+abbrev pub answeredTo : ℕ → ℕ → Log → ℕ
+answeredTo who n l = total (λ x. one (eqb (x .step .who) who and eqb (number (x .answer)) n)) l
+
+-- "A working step of a move is its BEGIN, or an accepted ADVANCE that is not answered 22.": those of the last move begun, and its meter
+abbrev pub workingSteps : Log → ℕ
+workingSteps [] = 0
+workingSteps (x ∷ l) =
+    pick (eqb (number (x .answer)) 21) 1
+    (pick (leb 23 (number (x .answer)) and leb (number (x .answer)) 27) (suc (workingSteps l)) (workingSteps l))
+
+abbrev pub lastMoved : Log → ℕ
+lastMoved [] = 0
+lastMoved (x ∷ l) = pick (eqb (number (x .answer)) 21) (x .step .a) (lastMoved l)
+
+-- the answers of a client's own accepted steps, the last first
+abbrev pub ownAnswers : ℕ → Log → List ℕ
+ownAnswers who [] = []
+ownAnswers who (x ∷ l) = pick (eqb (x .step .who) who and leb 20 (number (x .answer))) (number (x .answer) ∷ ownAnswers who l)
+    (ownAnswers who l)
+
+-- how many of them there are back to the READ or WRITE that was answered last
+abbrev pub sinceAsked : List ℕ → ℕ
+sinceAsked [] = 0
+sinceAsked (n ∷ l) = pick (eqb n 31 or eqb n 32) 1 (suc (sinceAsked l))

@@ -7,15 +7,26 @@ use Rattle.model.specs.Kinds.{kindTable, ofKind, cells, words, payload}
 pub record Regular (k : ℕ) : Type 0 where
   pub words-are-cells : words k ≡ 8 * cells k
   pub payload-is-words : payload k ≡ words k - 2
+  pub at-most : cells k ≤ 8
   pub cells-double : k < 4 → cells k ≡ 2 ^ k
+  pub some : k < 4 → 0 < cells k
 
 pub by-kind : (k : ℕ) → Regular k
 unfolding ofKind kindTable
-by-kind zero = record { words-are-cells = refl; payload-is-words = refl; cells-double = λ _. refl }
-by-kind (suc zero) = record { words-are-cells = refl; payload-is-words = refl; cells-double = λ _. refl }
-by-kind (suc (suc zero)) = record { words-are-cells = refl; payload-is-words = refl; cells-double = λ _. refl }
-by-kind (suc (suc (suc zero))) = record { words-are-cells = refl; payload-is-words = refl; cells-double = λ _. refl }
-by-kind (suc (suc (suc (suc k)))) = record { words-are-cells = refl; payload-is-words = refl; cells-double = λ h. absurd (omega arith) }
+by-kind zero = record { words-are-cells = refl; payload-is-words = refl; at-most = omega arith; cells-double = λ _. refl; some = λ _. omega arith }
+by-kind (suc zero) = record { words-are-cells = refl; payload-is-words = refl; at-most = omega arith; cells-double = λ _. refl; some = λ _. omega arith }
+by-kind (suc (suc zero)) =
+    record { words-are-cells = refl; payload-is-words = refl; at-most = omega arith; cells-double = λ _. refl; some = λ _. omega arith }
+by-kind (suc (suc (suc zero))) =
+    record { words-are-cells = refl; payload-is-words = refl; at-most = omega arith; cells-double = λ _. refl; some = λ _. omega arith }
+by-kind (suc (suc (suc (suc k)))) =
+    record {
+      words-are-cells = refl;
+      payload-is-words = refl;
+      at-most = omega arith;
+      cells-double = λ h. absurd (omega arith);
+      some = λ h. absurd (omega arith);
+    }
 
 -- the lengths of a record that exists
 pub record Real (k : ℕ) : Type 0 where
@@ -25,22 +36,10 @@ pub record Real (k : ℕ) : Type 0 where
   pub payload-less : payload k + 2 ≡ words k
 
 pub real : (k : ℕ) → k < 4 → Real k
-unfolding ofKind kindTable
-real zero h = record { some = omega arith; cells-le = omega arith; words-eight = refl; payload-less = refl }
-real (suc zero) h = record { some = omega arith; cells-le = omega arith; words-eight = refl; payload-less = refl }
-real (suc (suc zero)) h = record { some = omega arith; cells-le = omega arith; words-eight = refl; payload-less = refl }
-real (suc (suc (suc zero))) h = record { some = omega arith; cells-le = omega arith; words-eight = refl; payload-less = refl }
-real (suc (suc (suc (suc k)))) h = absurd (omega arith)
+real k h =
+    let r = by-kind k in
+    record { some = r .some h; cells-le = r .at-most; words-eight = r .words-are-cells; payload-less = omega (arith, r .some h) }
 
--- a record has at most eight cells
-pub cells-at-most : (k : ℕ) → cells k ≤ 8
-unfolding ofKind kindTable
-cells-at-most zero = omega arith
-cells-at-most (suc zero) = omega arith
-cells-at-most (suc (suc zero)) = omega arith
-cells-at-most (suc (suc (suc zero))) = omega arith
-cells-at-most (suc (suc (suc (suc k)))) = omega arith
-
--- so a run of them is shorter than a word of the map
+-- a run of a record's cells is shorter than a word of the map
 pub cells-short : (k : ℕ) → cells k < 64
-cells-short k = omega (arith, cells-at-most k)
+cells-short k = omega (arith, by-kind k .at-most)

@@ -11,6 +11,7 @@ pub mod Effects
 pub mod Says
 pub mod Readings
 pub mod Covers
+pub mod Fill
 pub mod Wording
 pub mod Fresh
 pub mod Sizes

@@ -8,6 +8,7 @@ use lib.ListN.{length, getD, set, replicate, List·getD-map}
 use Rattle.model.specs.declared.Row.{Row}
 use Rattle.model.specs.Rows.{freshRow, cleared, clearMarks}
 use Rattle.model.proofs.Choice.{by-test}
+use Rattle.model.proofs.Says.{All, all-get, at-all}
 use Rattle.table.specs.Words.{whole, rowIn, isRow, rowAt, listFrom, rowsOf}
 
 abbrev pub Four : Row → Type 0
@@ -15,6 +16,13 @@ Four r = length (r .holds) ≡ 4
 
 pub record FourHolds (table : List Row) : Type 0 where
   pub four : (i : ℕ) → Four (getD table i freshRow)
+
+-- the same as the model's `All`
+pub four-of-all : {table : List Row} → All Four table → FourHolds table
+four-of-all {table} h = record { four = λ i. all-get Four table i h refl }
+
+pub all-of-four : {table : List Row} → FourHolds table → All Four table
+all-of-four {table} h = at-all Four freshRow table (λ i b. h .four i)
 
 -- of the rows behind the first
 pub four-tail : {x : Row} {table : List Row} → FourHolds (x ∷ table) → FourHolds table

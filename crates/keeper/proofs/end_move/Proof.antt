@@ -1,5 +1,4 @@
 use Rattle.model.proofs.ByKind.{cells-short}
-use Rattle.model.proofs.ByKind.{cells-at-most}
 use native.Mathlib.Omega.{arith}
 use Prim.Native.Nat.{_≤_}
 use borrow.Author.Needs.{needs}

@@ -17,7 +17,8 @@ both-requires-3 c κs = search needs
 returns : tie.Need-returns
 unfolding isPhase
 returns c =
-    simp (c .both3 .ensures, c .before .both2 .ensures, c .before .before .both .ensures, eq-eqb _ _ (c .before .before .before .if1 .taken))
+    let f = c .before .before in
+    simp (c .both3 .ensures, c .before .both2 .ensures, f .both .ensures, eq-eqb _ _ (f .before .if1 .taken))
 
 either-requires : tie.Need-either-requires
 either-requires c κs = search needs
@@ -31,7 +32,8 @@ both-requires-5 c κs = search needs
 returns-2 : tie.Need-returns-2
 unfolding isPhase
 returns-2 c =
-    simp (c .both5 .ensures, c .before .both4 .ensures, c .before .before .either .ensures, ne-eqb _ _ (c .before .before .before .if1 .left))
+    let f = c .before .before in
+    simp (c .both5 .ensures, c .before .both4 .ensures, f .either .ensures, ne-eqb _ _ (f .before .if1 .left))
 
 pub is-phase-spec : {M : Type 1} → statement M
 is-phase-spec =

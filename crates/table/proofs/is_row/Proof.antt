@@ -88,7 +88,8 @@ returns-3 : tie.Need-returns-3
 unfolding isRow
 returns-3 c =
     let m = c .before .before .before .before .before .before in
-    simp (lt-ltb _ _ (m .before .before .before .before .if1 .taken), le-leb _ _ (m .before .before .if2 .left), le-leb _ _ (m .if3 .left)) (c .is-phase .ensures)
+    simp (lt-ltb _ _ (m .before .before .before .before .if1 .taken), le-leb _ _ (m .before .before .if2 .left), le-leb _ _ (m .if3 .left))
+    (c .is-phase .ensures)
 
 returns-4 : tie.Need-returns-4
 unfolding isRow
