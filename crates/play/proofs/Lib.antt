@@ -1,1 +1,3 @@
-pub mod Plays
+pub mod Steps
+pub mod Sections
+pub mod Printed

@@ -1,0 +1,33 @@
+#!/usr/bin/env bash
+# The built program on each case of tests/replay: NAME.in on standard input, NAME.out on standard output, byte by byte. The outputs come
+# from the plain archive (tests/rust/plain), which shares no code with the program. Then the two are compared on random texts, good and
+# damaged. `rt check replay` builds the program; SEEDS says how many texts.
+set -euo pipefail
+cd "$(dirname "${BASH_SOURCE[0]}")/.."
+
+program=$PWD/target/bin/replay
+[ -x "$program" ] || { echo "no $program: run rt check replay first" >&2; exit 1; }
+case $(uname -m) in
+x86_64) run=("$program") ;;
+*)
+    kit=$(dirname "$(dirname "$(readlink -f "$(command -v rt)")")")
+    emulator=$(command -v qemu-x86_64 || find "$kit/toolchain" -name 'qemu-x86_64*' -type f | head -n 1)
+    run=("$emulator" "$kit/toolchain/lib/ld-linux-x86-64.so.2" --library-path "$kit/toolchain/lib" "$program")
+    ;;
+esac
+
+printed=$(mktemp)
+trap 'rm -f "$printed"' EXIT
+cases=0 wrong=0
+for input in tests/replay/*.in; do
+    cases=$((cases + 1))
+    "${run[@]}" <"$input" >"$printed" || { echo "$input: the program failed" >&2; wrong=$((wrong + 1)); continue; }
+    cmp -s "$printed" "${input%.in}.out" || { echo "$input: another output" >&2; wrong=$((wrong + 1)); }
+done
+echo "replay: $cases cases, $wrong wrong"
+[ "$wrong" -eq 0 ]
+
+command -v cargo >/dev/null || { echo "replay: no cargo, the random texts are left out"; exit 0; }
+mkdir -p build
+export CARGO_TARGET_DIR=$PWD/build/plain REPLAY="${run[*]}" SEEDS=${SEEDS:-400}
+(cd tests/rust/plain && cargo test --offline --release --test program -- --nocapture)
