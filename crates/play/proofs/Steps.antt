@@ -54,8 +54,14 @@ meant-holds {c} {a} {t} R =
 tabled-small : (n : ℕ) → T (numberOf01 n) → n < 100
 tabled-small n t =
     ⊎-elim (λ h. h)
-    (λ h. absurd (simp (le-leb 1 n (omega arith), le-leb 20 n (omega arith), le-leb 30 n (omega arith), lt-leb n 15 (omega arith),
-      lt-leb n 27 (omega arith), lt-leb n 35 (omega arith)) at t))
+    (λ h. absurd (simp (
+      le-leb 1 n (omega arith),
+      le-leb 20 n (omega arith),
+      le-leb 30 n (omega arith),
+      lt-leb n 15 (omega arith),
+      lt-leb n 27 (omega arith),
+      lt-leb n 35 (omega arith),
+    ) at t))
     (order n 100)
 
 -- one line
@@ -103,7 +109,7 @@ leads-on {c} {a} {t} R x l {p} {q} {all} {r} {b} {u} {out} P L =
     let s : State = meant c a t in
     let o : Outcome = act s (stepOf x) in
     let m : meant (r .control) b u ≡ o .next = meant-is (stepOf x ∷ R .steps) (reached-on R x P .holds)
-        ∙ ap (λ (z : State). act z (stepOf x) .next) (sym (meant-is (R .steps) (R .holds))) in
+    ∙ ap (λ (z : State). act z (stepOf x) .next) (sym (meant-is (R .steps) (R .holds))) in
     rw (m, P .page, one-line p (number (o .answer)) (value (o .answer)))
     (record {
       page = sym (answers-more p act s (stepOf x) l) ∙ L .page;

@@ -25,7 +25,7 @@ abbrev μ-loop : tie.MeasureT-loop
 μ-loop arena₀ table₀ words admission count out₀ at control₀ place₀ i₀ arena table out control place i = count - i
 
 loop-holds : tie.Need-loop-holds Inv-loop μ-loop
-loop-holds c = 
+loop-holds c =
     let b = c .before .before .before in
     let a = b .before .args in (
       b .before .pre,
@@ -43,13 +43,16 @@ play-step-requires : tie.Need-play-step-requires Inv-loop μ-loop
 play-step-requires c κs = c .before .before .before .before .before .loop .inv .0
 
 add-i : tie.Need-add-i Inv-loop μ-loop
-add-i c = search needs
+add-i c =
+    let s = c .before .before .before .before .before .before .before .before .before in
+    let l = s .before .before .before .before in
+    omega (arith, s .before .before .before .loop-test .taken, l .before .before .before .before .before .fits .count .fits)
 
 loop-less : tie.Need-loop-less Inv-loop μ-loop
 loop-less c = search needs
 
 loop-again : tie.Need-loop-again Inv-loop μ-loop
-loop-again c = 
+loop-again c =
     let k = c .before .before .before .before .before .before .before in
     let s = k .before .before in
     let l = s .before .before .before .before in
@@ -74,7 +77,7 @@ same-length-3 : tie.Need-same-length-3 Inv-loop μ-loop
 same-length-3 c = search needs
 
 returns : tie.Need-returns Inv-loop μ-loop
-returns c = 
+returns c =
     let l = c .before in
     let a = l .before .before .before .before .before .args in
     leads-last (a .admission) (now (a .words)) (l .loop .i) (a .count) (c .loop-test .left) (l .loop .inv .0) (l .loop .inv .1)

@@ -64,10 +64,16 @@ load-requires-7 : tie.Need-load-requires-7
 load-requires-7 c κs = search needs
 
 returns-2 : tie.Need-returns-2
-returns-2 c = 
+returns-2 c =
     let b = c .before .before .before in
-    simp (b .before .before .if1 .left, b .before .load3 .ensures, b .load4 .ensures, c .before .before .load5 .ensures,
-    c .before .load6 .ensures, c .load7 .ensures)
+    simp (
+      b .before .before .if1 .left,
+      b .before .load3 .ensures,
+      b .load4 .ensures,
+      c .before .before .load5 .ensures,
+      c .before .load6 .ensures,
+      c .load7 .ensures,
+    )
 
 pub step-in-spec : {M : Type 1} → statement M
 step-in-spec =

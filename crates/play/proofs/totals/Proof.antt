@@ -1,5 +1,10 @@
 -- `totals`: the five numbers are read and printed. Assumes nothing.
 use borrow.Author.Needs.{needs}
+use mathlib.Core.Path.{ap₂, _∙_}
+use Prim.Native.Nat.{ℕ}
+use denote.Ref.{now}
+use Rattle.script.specs.Printing.{page, written}
+use Rattle.script.specs.Replay.{fiveTotals}
 use Rattle.play.proofs.totals.Statement.{statement}
 use Rattle.play.proofs.totals.Tie as tie
 
@@ -16,9 +21,14 @@ same-length : tie.Need-same-length
 same-length c = search needs
 
 returns : tie.Need-returns
-returns c = 
+returns c =
     let k = c .before .before in
-    simp (k .before .before .fill .ensures, k .before .before .before .all-swaps .ensures) (k .put-totals .ensures)
+    let f = k .before .before in
+    let a = f .before .before .before .before .before .args in
+    let m = a .control in
+    k .put-totals .ensures
+    ∙ ap₂ (λ (x y : ℕ). written (page (now (a .out)) (a .at)) (fiveTotals (m .begun) (m .committed) (m .aborted) x y))
+    (f .before .all-swaps .ensures) (f .fill .ensures)
 
 pub totals-spec : {M : Type 1} → statement M
 totals-spec =
