@@ -7,14 +7,12 @@ cd "$(dirname "${BASH_SOURCE[0]}")/.."
 
 program=$PWD/target/bin/replay
 [ -x "$program" ] || { echo "no $program: run rt check replay first" >&2; exit 1; }
-case $(uname -m) in
-x86_64) run=("$program") ;;
-*)
-    kit=$(dirname "$(dirname "$(readlink -f "$(command -v rt)")")")
-    emulator=$(command -v qemu-x86_64 || find "$kit/toolchain" -name 'qemu-x86_64*' -type f | head -n 1)
-    run=("$emulator" "$kit/toolchain/lib/ld-linux-x86-64.so.2" --library-path "$kit/toolchain/lib" "$program")
-    ;;
-esac
+run=("$program")
+if [ "$(uname -m)" != x86_64 ]; then
+    # the program is x86-64 code: the kit's emulator and loader, as `rt` itself runs it
+    tools=$(dirname "$(dirname "$(readlink -f "$(command -v rt)")")")/toolchain
+    run=("$tools/bin/qemu-x86_64" "$tools/lib/ld-linux-x86-64.so.2" --library-path "$tools/lib" "$program")
+fi
 
 printed=$(mktemp)
 trap 'rm -f "$printed"' EXIT

@@ -6,7 +6,7 @@ use mathlib.Core.List.{List, [], _∷_}
 use Prim.Native.Nat.{ℕ, _+_, _*_, _≤_, _<_}
 use native.Mathlib.Omega.{arith}
 use lib.ListN.{length, set, take, drop, length-set}
-use lib.Seq.{sets, sets-eq, take-append-seam}
+use lib.Seq.{sets, sets-eq, take-append-seam, length-take-le}
 use Rattle.model.specs.declared.Control.{Control}
 use Rattle.model.specs.declared.Row.{Row}
 use Rattle.model.specs.Choice.{total}
@@ -136,9 +136,11 @@ whole-of p before text e h = let z : 0 + length text ≡ length text = omega ari
 prints-by : (before out : List ℕ) (r : ℕ) (text : List ℕ) → page out r ≡ written (page before 0) text → length text ≤ 229440
     → Prints before out r text
 prints-by before out r text e h =
+    let w = within-of (page out r) (written (page before 0) text) e (written-within text (page before 0) (omega arith)) in
     record {
       page = e;
-      within = within-of (page out r) (written (page before 0) text) e (written-within text (page before 0) (omega arith));
+      within = w;
+      counted = sym (length-take-le r out w);
       whole = λ k. whole-of (page out r) before text (e ∙ written-whole text before 0 (omega arith)) (omega arith);
     }
 

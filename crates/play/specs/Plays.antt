@@ -60,8 +60,9 @@ pub record Performs (s : List ℕ) (m at k start : ℕ) (before out : List ℕ) 
   pub page : page out r ≡ written (page before 0) (printed m k (admissionsRun s m at) (stepsRun s k start (admissionsRun s m at)))
   pub sized : Sized (admissionsRun s m at) (stepsRun s k start (admissionsRun s m at))
 
--- a text is printed on a page: where 229,440 bytes have room, it is the first r bytes
+-- a text is printed: all that the page has room for, in its first r bytes; 229,440 bytes have room for the whole of it
 pub record Prints (before out : List ℕ) (r : ℕ) (text : List ℕ) : Type 0 where
   pub page : page out r ≡ written (page before 0) text
   pub within : r ≤ length out
+  pub counted : r ≡ length (take r out)
   pub whole : 229440 ≤ length before → take r out ≡ text
