@@ -5,16 +5,15 @@ ghost use Prim.Native.Nat.{_*_, _≤_};
 ghost use lib.ListN.{length};
 ghost use Rattle.model.specs.Choice.{total};
 ghost use Rattle.model.specs.CellMap.{fill};
-ghost use Rattle.model.specs.Steps.{act};
+ghost use Rattle.model.specs.Steps.{step, act};
 ghost use Rattle.model.specs.Calls.{oneByOne};
 ghost use Rattle.table.specs.Words.{rowsRead, swapsOf};
 ghost use Rattle.script.specs.declared.Parsed.the-variants.{Script};
 ghost use Rattle.script.specs.Lines.{parse, numbersAt};
 ghost use Rattle.script.specs.Printing.{page, written, line1};
-ghost use Rattle.script.specs.Replay.{fiveTotals, admissionsRun, stepsRun, printed, replayText};
+ghost use Rattle.script.specs.Replay.{fiveTotals, replayText};
 ghost use Rattle.archive.specs.Does.{meant};
 ghost use Rattle.play.specs.Plays.{numbersOf, stepIn, stepsIn, perLine, oneStep, Reached, Plays, Performs, Prints};
-use model::Answer;
 use model::Control;
 use model::Move;
 use script::Parsed;
@@ -32,19 +31,28 @@ pub struct Played {
     pub at: usize,
 }
 
+// "admissions `meter kind`"
+fn admission_of(meter: u32, kind: u32) -> Numbers
+    ensures { λ r. ⌜ r ≡ numbersOf (step 0 1 meter kind 0) ⌝ }
+{
+    Numbers {
+        who: 0,
+        code: 1,
+        a: meter,
+        b: kind,
+        v: 0,
+    }
+}
+
 // "admissions `meter kind`, steps `who code a b v`": line i of a section whose numbers lie in words.
 fn step_in(words: &[u32], admission: bool, i: u32) -> Numbers
     ensures { λ r. ⌜ r ≡ numbersOf (stepIn admission (now (words .entry)) i) ⌝ }
 {
     let k = i as usize;
     if admission {
-        return Numbers {
-            who: 0,
-            code: 1,
-            a: record::load(words, 2 * k),
-            b: record::load(words, 2 * k + 1),
-            v: 0,
-        };
+        let meter = record::load(words, 2 * k);
+        let kind = record::load(words, 2 * k + 1);
+        return admission_of(meter, kind);
     }
     Numbers {
         who: record::load(words, 5 * k),

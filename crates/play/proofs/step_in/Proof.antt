@@ -18,8 +18,13 @@ add-load c = search needs
 load-requires-2 : tie.Need-load-requires-2
 load-requires-2 c κs = search needs
 
+admission-of-requires : tie.Need-admission-of-requires
+admission-of-requires c κs = search needs
+
 returns : tie.Need-returns
-returns c = simp (c .before .before .if1 .taken, c .before .load .ensures, c .load2 .ensures)
+returns c =
+    let b = c .before .before in
+    simp (b .before .if1 .taken, c .admission-of .ensures, b .load .ensures, c .before .load2 .ensures)
 
 mul-load-3 : tie.Need-mul-load-3
 mul-load-3 c = search needs
@@ -84,6 +89,7 @@ step-in-spec =
     mul-load-2
     add-load
     load-requires-2
+    admission-of-requires
     returns
     mul-load-3
     load-requires-3
