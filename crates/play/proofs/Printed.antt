@@ -1,14 +1,13 @@
 -- What is printed: a script's two sections and its totals, the definition's text, and room for all of it. Assumes nothing.
-use mathlib.Core.Path.{_≡_, refl, sym, ap, ap₂, _∙_}
+use mathlib.Core.Path.{_≡_, sym, ap, _∙_}
 use mathlib.Core.Bool.{true, false}
 use mathlib.Core.Logic.{⊎-elim}
 use mathlib.Core.List.{List, [], _∷_}
 use Prim.Native.Nat.{ℕ, _+_, _*_, _≤_, _<_}
 use native.Mathlib.Omega.{arith}
-use lib.ListN.{length, set, take, drop, length-set}
+use lib.ListN.{length, take, drop, length-set}
 use lib.Seq.{sets, sets-eq, take-append-seam, length-take-le}
 use Rattle.model.specs.declared.Control.{Control}
-use Rattle.model.specs.declared.Row.{Row}
 use Rattle.model.specs.Choice.{total}
 use Rattle.model.specs.CellMap.{fill}
 use Rattle.model.specs.State.{State}
@@ -34,7 +33,7 @@ use Rattle.script.proofs.Pages.{put-room, put-full, written-append}
 use Rattle.script.proofs.Replay.{replay-too-long, replay-bad, replay-script}
 use Rattle.script.proofs.Room.{written-whole, Totals, Sized, SizedRuns, replay-short}
 use Rattle.play.specs.declared.Played.{Played}
-use Rattle.play.specs.Plays.{stepsIn, perLine, Holds, Plays, Performs, Prints}
+use Rattle.play.specs.Plays.{sectionRun, Holds, Plays, Performs, Prints}
 use Rattle.play.proofs.Sections.{admissions-are, steps-are, Reach, run-reaches, meant-by, fresh-reach}
 
 -- Totals: those of a state that was reached, in the sizes that they have
@@ -81,11 +80,11 @@ module _ (s : List ℕ) (m at k start : ℕ) where
   abbrev then : Ran
   then = stepsRun s k start first
 
-  first-is : oneByOne act fresh (stepsIn true (numbersAt s (perLine true * m) at) 0 m) ≡ first
+  first-is : sectionRun fresh true s at m ≡ first
   unfolding admissionsRun
   first-is = ap (oneByOne act fresh) (admissions-are (numbersAt s (2 * m) at) 0 m)
 
-  then-is : oneByOne act (first .next) (stepsIn false (numbersAt s (perLine false * k) start) 0 k) ≡ then
+  then-is : sectionRun (first .next) false s start k ≡ then
   unfolding stepsRun
   then-is = ap (oneByOne act (first .next)) (steps-are (numbersAt s (5 * k) start) 0 k)
 
@@ -97,14 +96,13 @@ module _ (s : List ℕ) (m at k start : ℕ) where
   unfolding stepsRun
   then-reach = rw (first-reach .is) (run-reaches (first-reach .steps) (stepsFrom (numbersAt s (5 * k) start) 0 k))
 
-  pub performs : {c : Control} {a t : List ℕ} {r1 r2 : Played} {a1 t1 out1 a2 t2 out2 before out : List ℕ} {r : ℕ} → Holds fresh c a t
-      → Plays (written (page before 0) (line1 m)) (oneByOne act (meant c a t) (stepsIn true (numbersAt s (perLine true * m) at) 0 m)) r1 a1 t1 out1
-      → Plays (written (page out1 (r1 .at)) (line1 k))
-      (oneByOne act (meant (r1 .control) a1 t1) (stepsIn false (numbersAt s (perLine false * k) start) 0 k)) r2 a2 t2 out2
+  pub performs : {c : Control} {a t a1 t1 a2 t2 before out1 out2 out : List ℕ} {r1 r2 : Played} {r : ℕ} → Holds fresh c a t
+      → Plays (written (page before 0) (line1 m)) (sectionRun (meant c a t) true s at m) r1 a1 t1 out1
+      → Plays (written (page out1 (r1 .at)) (line1 k)) (sectionRun (meant (r1 .control) a1 t1) false s start k) r2 a2 t2 out2
       → page out r ≡ written (page out2 (r2 .at)) (fiveTotals (r2 .control .begun) (r2 .control .committed) (r2 .control .aborted)
       (total swapsOf (rowsRead t2)) (fill (r2 .control .map)))
       → Performs s m at k start before out r
-  performs {c} {a} {t} {r1} {r2} {a1} {t1} {out1} {a2} {t2} {out2} {before} {out} {r} H P Q e =
+  performs {c} {a} {t} {a1} {t1} {a2} {t2} {before} {out1} {out2} {out} {r1} {r2} {r} H P Q e =
       let P' : Plays (written (page before 0) (line1 m)) first r1 a1 t1 out1 = rw (meant-by fresh-reach H, first-is) at P in
       let Q' : Plays (written (page out1 (r1 .at)) (line1 k)) then r2 a2 t2 out2 = rw (meant-by first-reach (P' .holds), then-is) at Q in
       record {
@@ -158,8 +156,8 @@ prints-bad s before out r {n} h e f =
     prints-by before out r (replayText s) (f ∙ ap (written (page before 0)) (sym (replay-bad s n h e)))
     (replay-short s (λ m at k start g. no-script (parse s) e g))
 
-sized-runs : (s : List ℕ) (m at k start : ℕ) → parse s ≡ Script m at k start → Sized (admissionsRun s m at) (stepsRun s k start (admissionsRun s m at))
-    → SizedRuns s
+sized-runs : (s : List ℕ) (m at k start : ℕ) → parse s ≡ Script m at k start
+    → Sized (admissionsRun s m at) (stepsRun s k start (admissionsRun s m at)) → SizedRuns s
 sized-runs s m at k start e z m′ at′ k′ start′ f =
     let p : m ≡ m′ = cc in
     let q : at ≡ at′ = cc in

@@ -3,7 +3,7 @@
 use mathlib.Core.Path.{_≡_, refl, ap, _∙_}
 use mathlib.Core.Bool.{Bool, true, false}
 use mathlib.Core.Logic.{⊎-elim}
-use mathlib.Core.List.{List, [], _∷_, _++_}
+use mathlib.Core.List.{List, [], _∷_}
 use Prim.Native.Nat.{ℕ, zero, suc, _+_, _-_, _*_, _≤_}
 use native.Mathlib.Omega.{arith}
 use lib.ListN.{length, getD, drop, replicate, length-replicate}
@@ -29,7 +29,7 @@ use Rattle.script.specs.Replay.{admissionsFrom}
 use Rattle.script.proofs.Lines.{numbers-none, numbers-stop, numbers-go-on}
 use Rattle.script.proofs.Replay.{words-there}
 use Rattle.play.specs.declared.Played.{Played}
-use Rattle.play.specs.Plays.{stepsIn, perLine, Holds, Reached, Plays}
+use Rattle.play.specs.Plays.{stepsIn, perLine, runIn, sectionRun, Holds, Reached, Plays}
 use Rattle.play.proofs.Steps.{meant-is}
 
 -- numbers laid out over zeros: the same numbers, and zeros behind them
@@ -46,12 +46,15 @@ beyond (v ∷ vs) (suc i) h = beyond vs i (omega arith)
 behind : (n : ℕ) (vs : List ℕ) (j : ℕ) → length vs ≤ n → _≡_ {A = ℕ} (getD (sets (replicate n 0) 0 vs) (length vs + j) 0) 0
 behind n vs j h =
     rw (sets-eq vs (replicate n 0) 0 (rw length-replicate (omega arith)))
-    (getD-append-add vs (drop (0 + length vs) (replicate n 0)) j 0 ∙ getD-drop (0 + length vs) (replicate n 0) j 0 ∙ zeros n (0 + length vs + j))
+    (getD-append-add vs (drop (0 + length vs) (replicate n 0)) j 0
+    ∙ getD-drop (0 + length vs) (replicate n 0) j 0 ∙ zeros n (0 + length vs + j))
 
 pub laid-out : (n : ℕ) (vs : List ℕ) (i : ℕ) → length vs ≤ n → getD (sets (replicate n 0) 0 vs) i 0 ≡ getD vs i 0
 laid-out n vs i h =
-    ⊎-elim (λ k. words-there (replicate n 0) vs i (rw length-replicate h) k) (λ k. let e : i ≡ length vs + (i - length vs) = omega arith in
-    rw (beyond vs i k) (ap (λ (j : ℕ). getD (sets (replicate n 0) 0 vs) j 0) e ∙ behind n vs (i - length vs) h)) (order i (length vs))
+    ⊎-elim (λ k. words-there (replicate n 0) vs i (rw length-replicate h) k)
+    (λ k. let e : i ≡ length vs + (i - length vs) = omega arith in
+    rw (beyond vs i k) (ap (λ (j : ℕ). getD (sets (replicate n 0) 0 vs) j 0) e ∙ behind n vs (i - length vs) h))
+    (order i (length vs))
 
 pub steps-laid-out : (n : ℕ) (vs : List ℕ) → length vs ≤ n → (admission : Bool) (i k : ℕ)
     → stepsIn admission (sets (replicate n 0) 0 vs) i k ≡ stepsIn admission vs i k
@@ -85,8 +88,7 @@ few s (suc n) at = few-by s n at (numberAt s at) refl (few s n)
 pub section-plays : (s words : List ℕ) (admission : Bool) (count size start room : ℕ) (st : State) {p q : Page} {r : Played}
     {b u out : List ℕ} → perLine admission * count ≤ room → size ≡ perLine admission * count
     → words ≡ sets (replicate room 0) 0 (numbersAt s size start) → p ≡ q
-    → Plays p (oneByOne act st (stepsIn admission words 0 count)) r b u out
-    → Plays q (oneByOne act st (stepsIn admission (numbersAt s (perLine admission * count) start) 0 count)) r b u out
+    → Plays p (runIn st admission words count) r b u out → Plays q (sectionRun st admission s start count) r b u out
 section-plays s words admission count size start room st {p} {q} {r} {b} {u} {out} h e f g P =
     let vs : List ℕ = numbersAt s (perLine admission * count) start in
     let w : words ≡ sets (replicate room 0) 0 vs = f ∙ ap (λ (n : ℕ). sets (replicate room 0) 0 (numbersAt s n start)) e in

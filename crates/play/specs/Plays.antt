@@ -2,7 +2,7 @@
 use mathlib.Core.Path.{_≡_}
 use mathlib.Core.Bool.{Bool, true, false}
 use mathlib.Core.List.{List, [], _∷_}
-use Prim.Native.Nat.{ℕ, zero, suc, _≤_}
+use Prim.Native.Nat.{ℕ, zero, suc, _*_, _≤_}
 use lib.ListN.{length, take}
 use Rattle.model.specs.declared.Control.{Control}
 use Rattle.model.specs.State.{State}
@@ -11,6 +11,7 @@ use Rattle.model.specs.Calls.{Ran, oneByOne, stepAt}
 use Rattle.demands.specs.Log.{after}
 use Rattle.table.specs.Words.{tableWords}
 use Rattle.turns.specs.declared.Numbers.{Numbers}
+use Rattle.script.specs.Lines.{numbersAt}
 use Rattle.script.specs.Printing.{Page, page, written}
 use Rattle.script.specs.Replay.{admissionAt, answerLines, printed, admissionsRun, stepsRun}
 use Rattle.script.proofs.Room.{Short, Sized}
@@ -28,6 +29,13 @@ stepsIn admission words i (suc n) = stepIn admission words i ∷ stepsIn admissi
 abbrev pub perLine : Bool → ℕ
 perLine true = 2
 perLine false = 5
+
+-- the run of a section's n lines, from its words and from its text
+abbrev pub runIn : State → Bool → List ℕ → ℕ → Ran
+runIn s admission words n = oneByOne act s (stepsIn admission words 0 n)
+
+abbrev pub sectionRun : State → Bool → List ℕ → ℕ → ℕ → Ran
+sectionRun s admission text start n = runIn s admission (numbersAt text (perLine admission * n) start) n
 
 abbrev pub numbersOf : Step → Numbers
 numbersOf t = record { who = t .who; code = t .code; a = t .a; b = t .b; v = t .v }

@@ -5,15 +5,14 @@ ghost use Prim.Native.Nat.{_*_, _≤_};
 ghost use lib.ListN.{length};
 ghost use Rattle.model.specs.Choice.{total};
 ghost use Rattle.model.specs.CellMap.{fill};
-ghost use Rattle.model.specs.Steps.{step, act};
-ghost use Rattle.model.specs.Calls.{oneByOne};
+ghost use Rattle.model.specs.Steps.{step};
 ghost use Rattle.table.specs.Words.{rowsRead, swapsOf};
 ghost use Rattle.script.specs.declared.Parsed.the-variants.{Script};
-ghost use Rattle.script.specs.Lines.{parse, numbersAt};
+ghost use Rattle.script.specs.Lines.{parse};
 ghost use Rattle.script.specs.Printing.{page, written, line1};
 ghost use Rattle.script.specs.Replay.{fiveTotals, replayText};
 ghost use Rattle.archive.specs.Does.{meant};
-ghost use Rattle.play.specs.Plays.{numbersOf, stepIn, stepsIn, perLine, oneStep, Reached, Plays, Performs, Prints};
+ghost use Rattle.play.specs.Plays.{numbersOf, stepIn, perLine, oneStep, runIn, sectionRun, Reached, Plays, Performs, Prints};
 use model::Control;
 use model::Move;
 use script::Parsed;
@@ -84,7 +83,9 @@ fn play_step(
     at: usize,
 ) -> Played
     requires { ⌜ Reached control (now arena) (now table) ⌝ }
-    ensures { λ r. ⌜ Plays (page (now (out .entry)) at) (oneStep (meant control (now (arena .entry)) (now (table .entry))) s) r (now (arena .exit)) (now (table .exit)) (now (out .exit)) ⌝ }
+    ensures { λ r. ⌜ Plays (page (now (out .entry)) at)
+        (oneStep (meant control (now (arena .entry)) (now (table .entry))) s)
+        r (now (arena .exit)) (now (table .exit)) (now (out .exit)) ⌝ }
 {
     let reply = archive::step(control, arena, table, s.who, s.code, s.a, s.b, s.v);
     let next = reply.control;
@@ -109,7 +110,9 @@ fn play_steps(
     at: usize,
 ) -> Played
     requires { ⌜ Reached was (now arena) (now table) ⌝ }
-    ensures { λ r. ⌜ Plays (page (now (out .entry)) at) (oneByOne act (meant was (now (arena .entry)) (now (table .entry))) (stepsIn admission (now (words .entry)) 0 count)) r (now (arena .exit)) (now (table .exit)) (now (out .exit)) ⌝ }
+    ensures { λ r. ⌜ Plays (page (now (out .entry)) at)
+        (runIn (meant was (now (arena .entry)) (now (table .entry))) admission (now (words .entry)) count)
+        r (now (arena .exit)) (now (table .exit)) (now (out .exit)) ⌝ }
 {
     let mut control = was;
     let mut place = at;
@@ -144,7 +147,9 @@ fn section(
     at: usize,
 ) -> Played
     requires { ⌜ (Reached control (now arena) (now table)) × (perLine admission * count ≤ 32768) ⌝ }
-    ensures { λ r. ⌜ Plays (written (page (now (out .entry)) at) (line1 count)) (oneByOne act (meant control (now (arena .entry)) (now (table .entry))) (stepsIn admission (numbersAt (now (input .entry)) (perLine admission * count) start) 0 count)) r (now (arena .exit)) (now (table .exit)) (now (out .exit)) ⌝ }
+    ensures { λ r. ⌜ Plays (written (page (now (out .entry)) at) (line1 count))
+        (sectionRun (meant control (now (arena .entry)) (now (table .entry))) admission (now (input .entry)) start count)
+        r (now (arena .exit)) (now (table .exit)) (now (out .exit)) ⌝ }
 {
     let mut words = [0u32; WORDS];
     script::reading::numbers(input, numbers_in(admission, count), start, &mut words, 0);
@@ -154,7 +159,9 @@ fn section(
 
 // "then five totals: begun, committed, aborted, all swaps, fill"
 fn totals(control: Control, table: &[u32], out: &mut [u8], at: usize) -> usize
-    ensures { λ r. ⌜ page (now (out .exit)) r ≡ written (page (now (out .entry)) at) (fiveTotals (control .begun) (control .committed) (control .aborted) (total swapsOf (rowsRead (now (table .entry)))) (fill (control .map))) ⌝ }
+    ensures { λ r. ⌜ page (now (out .exit)) r ≡ written (page (now (out .entry)) at)
+        (fiveTotals (control .begun) (control .committed) (control .aborted)
+        (total swapsOf (rowsRead (now (table .entry)))) (fill (control .map))) ⌝ }
 {
     let map = control.map;
     let swaps = table::all_swaps(table);

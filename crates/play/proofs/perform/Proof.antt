@@ -74,7 +74,8 @@ returns c =
     let b = f .before .before .before .before .before .before in
     let a = b .args in
     performs (now (a .input)) (a .admissions) (a .first) (a .steps) (a .second)
-    (fresh-holds (f .before .before .before .blank .result) (f .fresh .ensures)) (d .section .ensures) (g .section2 .ensures) (e .totals .ensures)
+    (fresh-holds (f .before .before .before .blank .result) (f .fresh .ensures))
+    (d .section .ensures) (g .section2 .ensures) (e .totals .ensures)
 
 pub perform-spec : {M : Type 1} → statement M
 perform-spec =

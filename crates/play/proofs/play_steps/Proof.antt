@@ -9,7 +9,7 @@ use Rattle.model.specs.Steps.{act}
 use Rattle.model.specs.Calls.{oneByOne}
 use Rattle.archive.specs.Does.{meant}
 use Rattle.script.specs.Printing.{page}
-use Rattle.play.specs.Plays.{stepsIn, Reached}
+use Rattle.play.specs.Plays.{stepsIn, runIn, Reached}
 use Rattle.play.proofs.Steps.{Leads, leads-first, leads-turn, leads-last, reached-on}
 use Rattle.play.proofs.play_steps.Statement.{statement}
 use Rattle.play.proofs.play_steps.Tie as tie
@@ -18,7 +18,7 @@ abbrev Inv-loop : tie.InvT-loop
 Inv-loop arena₀ table₀ words admission count out₀ at control₀ place₀ i₀ arena table out control place i =
     (Reached control arena table)
     × (Leads (page out place) (oneByOne act (meant control arena table) (stepsIn admission words i (count - i)))
-    (page out₀ at) (oneByOne act (meant control₀ arena₀ table₀) (stepsIn admission words 0 count)))
+    (page out₀ at) (runIn (meant control₀ arena₀ table₀) admission words count))
     × (i ≤ count) × (length arena ≡ length arena₀) × (length table ≡ length table₀) × (length out ≡ length out₀)
 
 abbrev μ-loop : tie.MeasureT-loop
@@ -29,7 +29,8 @@ loop-holds c =
     let b = c .before .before .before in
     let a = b .before .args in (
       b .before .pre,
-      leads-first (page (now (a .out)) (a .at)) (meant (a .was) (now (a .arena)) (now (a .table))) (a .admission) (now (a .words)) (a .count),
+      leads-first (page (now (a .out)) (a .at)) (meant (a .was) (now (a .arena)) (now (a .table)))
+          (a .admission) (now (a .words)) (a .count),
       omega arith,
       refl,
       refl,
@@ -59,8 +60,8 @@ loop-again c =
     let a = l .before .before .before .before .before .args in
     let R = l .loop .inv .0 in (
       reached-on R (s .step-in .result) (k .play-step .ensures),
-      leads-turn R (a .admission) (now (a .words)) (l .loop .i) (a .count) (s .step-in .result) (s .before .before .before .loop-test .taken)
-          (s .step-in .ensures) (k .play-step .ensures) (l .loop .inv .1),
+      leads-turn R (a .admission) (now (a .words)) (l .loop .i) (a .count) (s .step-in .result)
+          (s .before .before .before .loop-test .taken) (s .step-in .ensures) (k .play-step .ensures) (l .loop .inv .1),
       omega arith,
       k .play-step .kept .1 .0 ∙ l .loop .inv .3,
       k .play-step .kept .1 .1 .0 ∙ l .loop .inv .4,

@@ -42,7 +42,8 @@ returns c =
     let b = i .before .before .before .before .before in
     let a = b .args in
     section-plays (now (a .input)) _ (a .admission) (a .count) (i .numbers-in .result) (a .start) 32768
-    (meant (a .control) (now (a .arena)) (now (a .table))) (b .pre .1) (i .numbers-in .ensures) (w .numbers .ensures) (n .put-line .ensures) (k .play-steps .ensures)
+    (meant (a .control) (now (a .arena)) (now (a .table))) (b .pre .1) (i .numbers-in .ensures)
+    (w .numbers .ensures) (n .put-line .ensures) (k .play-steps .ensures)
 
 pub section-spec : {M : Type 1} → statement M
 section-spec =
