@@ -1,26 +1,21 @@
+-- `archive::run_sizes` meets its contract, by its three tests. Assumes nothing.
+use borrow.Author.Needs.{needs}
 use borrow.Author.Tests.{eq-eqb, ne-eqb, lt-leb, le-leb}
 use Rattle.model.specs.Calls.{runSizes}
-use borrow.Author.Needs.{needs}
 use Rattle.archive.proofs.run_sizes.Statement.{statement}
 use Rattle.archive.proofs.run_sizes.Tie as tie
-use Rattle.archive.proofs.run_sizes.Reads as reads
-use Rattle.archive.proofs.run_sizes.Lts as lts
 
--- src/lib.rt:132:9
 returns : tie.Need-returns
 unfolding runSizes
 returns c = simp (lt-leb _ _ (c .if1 .taken))
 
--- src/lib.rt:135:9
 returns-2 : tie.Need-returns-2
 unfolding runSizes
 returns-2 c = simp (le-leb _ _ (c .before .if1 .left), ne-eqb _ _ (c .if2 .taken))
 
--- src/lib.rt:137:22
 mul-result : tie.Need-mul-result
 mul-result c = search needs
 
--- src/lib.rt:127:1
 returns-3 : tie.Need-returns-3
 unfolding runSizes
 returns-3 c = simp (le-leb _ _ (c .before .if1 .left), eq-eqb _ _ (c .if2 .left))

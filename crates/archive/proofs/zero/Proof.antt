@@ -1,17 +1,16 @@
+-- `archive::zero` meets its contract. The invariant: i zeros are laid; at the end they are all that is left. Assumes nothing.
 use denote.Ref.{now}
+use borrow.Author.Needs.{needs}
 use mathlib.Core.List.{List}
+use mathlib.Core.Path.{_≡_, sym, ap, _∙_}
+use Prim.Native.Nat.{ℕ, _+_, _≤_, _-_}
 use native.Mathlib.Nat.{zero-add}
+use native.Mathlib.Omega.{arith}
+use lib.ListN.{length, set, replicate, length-replicate}
 use Rattle.model.proofs.Records.{laid-none, laid-all, laid-run-more}
 use Rattle.model.specs.Records.{laid}
-use lib.ListN.{length, set, replicate, length-replicate}
-use native.Mathlib.Omega.{arith}
-use Prim.Native.Nat.{ℕ, _+_, _≤_, _-_}
-use mathlib.Core.Path.{_≡_, sym, ap, _∙_}
-use borrow.Author.Needs.{needs}
 use Rattle.archive.proofs.zero.Statement.{statement}
 use Rattle.archive.proofs.zero.Tie as tie
-use Rattle.archive.proofs.zero.Reads as reads
-use Rattle.archive.proofs.zero.Lts as lts
 
 one-more : (entry : List ℕ) (i : ℕ) {arena : List ℕ} → arena ≡ laid entry 0 (replicate i 0) → set arena i 0 ≡ laid entry 0 (replicate (i + 1) 0)
 one-more entry i e = rw e (sym (rw zero-add at (laid-run-more entry 0 i 0)))
@@ -25,37 +24,31 @@ Inv-loop arena₀ i₀ arena i = (arena ≡ laid arena₀ 0 (replicate i 0)) × 
 abbrev μ-loop : tie.MeasureT-loop
 μ-loop arena₀ i₀ arena i = length arena₀ - i
 
--- src/lib.rt:56:5
 loop-holds : tie.Need-loop-holds Inv-loop μ-loop
 loop-holds c = (sym (laid-none _ _), search needs, search needs)
 
--- src/lib.rt:57:9
 mul-arena : tie.Need-mul-arena Inv-loop μ-loop
 mul-arena c = search needs
 
--- src/lib.rt:57:9
 slice-write-arena : tie.Need-slice-write-arena Inv-loop μ-loop
 slice-write-arena c = search needs
 
--- src/lib.rt:58:9
 add-i : tie.Need-add-i Inv-loop μ-loop
 add-i c = search needs
 
--- src/lib.rt:56:5
 loop-less : tie.Need-loop-less Inv-loop μ-loop
 loop-less c = search needs
 
--- src/lib.rt:56:5
 loop-again : tie.Need-loop-again Inv-loop μ-loop
 loop-again c = (one-more _ _ (c .before .loop .inv .0), search needs, search needs)
 
--- src/lib.rt:52:1
 same-length : tie.Need-same-length Inv-loop μ-loop
 same-length c = search needs
 
--- src/lib.rt:52:1
 returns : tie.Need-returns Inv-loop μ-loop
-returns c = let e : c .before .loop .i ≡ length (now (c .before .before .args .arena)) = omega arith in all-zero _ _ (c .before .loop .inv .0) e
+returns c = let s = c .before .before .args in
+    let e : c .before .loop .i ≡ length (now (s .arena)) = omega arith in
+    all-zero _ _ (c .before .loop .inv .0) e
 
 pub zero-spec : {M : Type 1} → statement M
 zero-spec =
