@@ -3,7 +3,7 @@
 use mathlib.Core.Path.{_≡_, refl, sym, ap, _∙_}
 use mathlib.Core.Bool.{true, false}
 use mathlib.Core.List.{List, [], _∷_}
-use Prim.Native.Nat.{ℕ, zero, suc, _+_, _*_, _/_, _%_, _≤_, _<_}
+use Prim.Native.Nat.{ℕ, zero, suc, _*_, _/_, _%_, _≤_, _<_}
 use native.Mathlib.Omega.{arith}
 use lib.Dec.{eqb, leb, ltb}
 use lib.ListN.{length, replicate}
@@ -12,7 +12,7 @@ use Rattle.model.specs.declared.Answer.{Answer}
 use Rattle.model.specs.declared.Answer.the-variants.{Refused, Done}
 use Rattle.model.specs.declared.Control.{Control}
 use Rattle.model.specs.declared.Row.{Row}
-use Rattle.model.specs.Choice.{pick, _and_}
+use Rattle.model.specs.Choice.{_and_}
 use Rattle.model.specs.CellMap.{fill}
 use Rattle.model.specs.State.{State}
 use Rattle.model.specs.Answers.{Outcome, outcome, number}
@@ -20,7 +20,8 @@ use Rattle.model.specs.Refusals.{_if_}
 use Rattle.model.specs.Fresh.{freshControl}
 use Rattle.model.specs.Steps.{Step, step, refused, act}
 use Rattle.model.specs.Rules.{firstBroken}
-use Rattle.model.specs.Calls.{wrongSize, unsound, freshCall, auditCall, fillCall, stepCall, Ran, ran, oneByOne, stepsFrom, stepsOf, runSizes, runCall}
+use Rattle.model.specs.Calls.{wrongSize, unsound, freshCall, auditCall, fillCall, stepCall}
+use Rattle.model.specs.Calls.{Ran, ran, oneByOne, stepsFrom, stepsOf, runSizes, runCall}
 use Rattle.model.proofs.Choice.{by-test, and-parts}
 use Rattle.model.proofs.Records.{laid-all}
 use Rattle.model.proofs.Refusals.{refused-by-given, accepted-by-given}
@@ -64,7 +65,8 @@ run-wrong-sizes s ws slots e = by-test (λ (r : Ran). r ≡ ran (Refused 1) slot
 refusal-small : (s : State) → refusalOf s ≤ 2
 unfolding refusalOf
 refusal-small s =
-    by-test (λ (n : ℕ). n ≤ 2) (wrongSize s) (λ _. omega arith) (λ _. by-test (λ (n : ℕ). n ≤ 2) (unsound s) (λ _. omega arith) (λ _. omega arith))
+    by-test (λ (n : ℕ). n ≤ 2) (wrongSize s) (λ _. omega arith)
+    (λ _. by-test (λ (n : ℕ). n ≤ 2) (unsound s) (λ _. omega arith) (λ _. omega arith))
 
 words-refused : (t : List ℕ) (n : ℕ) (rows : List Row) → n < 20 → t ≡ wordsAfter t (Refused n) rows
 unfolding wordsAfter
@@ -74,7 +76,8 @@ module _ (c : Control) (a t : List ℕ) where
   pub refused-does : (n : ℕ) → n ≤ 2 → CallDoes t (reply c (Refused n)) a t (refused (meant c a t) n)
   refused-does n h = record { answer = refl; control = refl; arena = refl; table = words-refused t n (rowsOf t) (omega arith) }
 
-  pub step-stays : (n : ℕ) (T : Step) → n ≡ refusalOf (meant c a t) → 0 < n → CallDoes t (reply c (Refused n)) a t (stepCall (meant c a t) T)
+  pub step-stays : (n : ℕ) (T : Step) → n ≡ refusalOf (meant c a t) → 0 < n
+      → CallDoes t (reply c (Refused n)) a t (stepCall (meant c a t) T)
   step-stays n T e h = rw (step-refused (meant c a t) n e T h) (refused-does n (rw e (refusal-small (meant c a t))))
 
   pub run-stays : (n : ℕ) (ws slots : List ℕ) → n ≤ 2 → runCall (meant c a t) ws slots ≡ ran (Refused n) slots (meant c a t)
@@ -184,7 +187,8 @@ run-goes c a t ws slots {r} {b} {u} {w} q e d =
     let few : length ws ≤ 20480 = leb-true (length ws) 20480 (p .0) in
     let fives : length ws % 5 ≡ 0 = eqb-true (length ws % 5) 0 (f .0) in
     let twos : length slots ≡ 2 * (length ws / 5) = eqb-true (length slots) (2 * (length ws / 5)) (f .1) in
-    let o : runCall s ws slots ≡ R = rw q (accepted-by-given (1 if wrongSize s ∷ 2 if unsound s ∷ []) (λ n. ran (Refused n) slots s) R tt e) in
+    let o : runCall s ws slots ≡ R =
+    rw q (accepted-by-given (1 if wrongSize s ∷ 2 if unsound s ∷ []) (λ n. ran (Refused n) slots s) R tt e) in
     let g : RunDoes b u w r (turnsFrom ws 0 4096 (going (lentOf s) slots (Done 0))) = rw (P .words) d in
     let W : Went slots 0 (turnsFrom ws 0 4096 (going (lentOf s) slots (Done 0))) R =
     run-steps (length ws / 5) 4096 0 ws slots (Done 0) s (P .rows) (omega arith) refl (omega arith) (omega arith) in

@@ -1,5 +1,5 @@
 -- The loop over the steps: one turn more, or none where no step is left. Assumes nothing.
-use mathlib.Core.Path.{_≡_, refl, sym, _∙_}
+use mathlib.Core.Path.{_≡_, refl, _∙_}
 use mathlib.Core.Bool.{Bool, true, false}
 use mathlib.Core.List.{List}
 use Prim.Native.Nat.{ℕ, zero, suc, _+_, _-_, _*_, _≤_, _<_}
@@ -46,7 +46,8 @@ unfolding turnsFrom
 turns-next ws i n g e = rw e
 
 -- what the loop keeps: the whole run is the turns that are left, on what is lent now
-pub turns-more : (ws : List ℕ) (i : ℕ) (whole : Going) (c : Control) (a t s : List ℕ) (x : Answer) {o : Turn} {d : Control} {b u v : List ℕ} {y : Answer}
+pub turns-more : (ws : List ℕ) (i : ℕ) (whole : Going) (c : Control) (a t s : List ℕ) (x : Answer)
+    {o : Turn} {d : Control} {b u v : List ℕ} {y : Answer}
     → whole ≡ turnsFrom ws i (4096 - i) (going (lent c a t) s x) → hasStep (length ws) (length s) i ≡ true
     → turnOn (lent c a t) (stepAt ws i) ≡ o
     → d ≡ o .next .control → b ≡ o .next .arena → u ≡ o .next .table → y ≡ o .answer → v ≡ putTold s i (toldAs y)

@@ -50,12 +50,13 @@ same-length-7 : tie.Need-same-length-7
 same-length-7 c = search needs
 
 returns-3 : tie.Need-returns-3
-returns-3 c = let r = c .before .before .before .before .before .before .before .before .before .before .before .before in
+returns-3 c = let k = c .before .before .before .before .before .before .before in
+    let r = k .before .before .before .before .before in
     let b = r .before .before .before in
     let s = b .before .before .before .before .before .before .before .args in
-    let z : r .refusal .result ≡ 0 = omega (arith, c .before .before .before .before .before .before .before .before .before .before .before .if2 .left) in
+    let z : r .refusal .result ≡ 0 = omega (arith, k .before .before .before .before .if2 .left) in
     run-goes (s .control) (now (s .arena)) (now (s .table)) (now (s .steps)) (now (s .answers))
-    (said-yes (b .before .run-sizes .ensures) (b .if1 .left)) (sym (r .refusal .ensures) ∙ z) (c .before .before .before .before .before .before .before .turns .ensures)
+    (said-yes (b .before .run-sizes .ensures) (b .if1 .left)) (sym (r .refusal .ensures) ∙ z) (k .turns .ensures)
 
 pub run-spec : {M : Type 1} → statement M
 run-spec =
