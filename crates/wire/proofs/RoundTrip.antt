@@ -77,3 +77,8 @@ all-of-numbers k (suc n) b at B h =
     let e : k * suc n ≡ k + k * n = omega (arith, mul-suc k n) in
     rw (e, take-add k (k * n) (drop at b), drop-drop k at b)
     (ap₂ (λ (x y : List ℕ). x ++ y) (bytes-of-number k b at B (omega arith)) (all-of-numbers k n b (at + k) B (omega arith)))
+
+-- one number is a list of it
+pub numbers-one : (k : ℕ) (b : List ℕ) (at : ℕ) → numbers k 1 b at ≡ number k b at ∷ []
+unfolding numbers
+numbers-one k b at = refl
