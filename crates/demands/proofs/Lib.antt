@@ -27,3 +27,4 @@ pub mod ToRules
 pub mod Kept
 pub mod Runs
 pub mod Promised
+pub mod KeptOut

@@ -1,0 +1,29 @@
+-- `turns::advance` meets its contract: the word and the marks are stored as the move has them. Assumes nothing.
+use borrow.Author.Needs.{needs}
+use Rattle.turns.proofs.advance.Statement.{statement}
+use Rattle.turns.proofs.advance.Tie as tie
+
+advance-requires : tie.Need-advance-requires
+advance-requires c κs = search needs
+
+apply-requires : tie.Need-apply-requires
+apply-requires c κs = search needs
+
+clear-if-requires : tie.Need-clear-if-requires
+clear-if-requires c κs = search needs
+
+same-length : tie.Need-same-length
+same-length c = search needs
+
+same-length-2 : tie.Need-same-length-2
+same-length-2 c = search needs
+
+returns : tie.Need-returns
+returns c = let b = c .before .before .before .before .before .before in
+    let o = b .before .before .before .advance .ensures in
+    record { arena = rw o at (b .apply .ensures); table = rw o at (c .before .before .clear-if .ensures); mv = rw o; answer = rw o }
+
+pub advance-spec : {M : Type 1} → statement M
+advance-spec =
+    tie.close
+    (tie.spec advance-requires apply-requires clear-if-requires same-length same-length-2 returns)
