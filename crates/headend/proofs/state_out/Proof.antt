@@ -8,7 +8,7 @@ use denote.Ref.{now}
 use Rattle.model.specs.Records.{laid}
 use Rattle.wire.specs.Bytes.{allBytes}
 use Rattle.wire.proofs.Bytes.{length-all}
-use Rattle.wire.proofs.Laid.{laid-all}
+use Rattle.model.proofs.Records.{laid-all}
 use Rattle.headend.specs.Buffer.{Part, joined, controlParts, bytesIn}
 use Rattle.headend.proofs.Parts.{length-joined, joined-append, laid-behind}
 use borrow.Author.Needs.{needs, length-unmapped}
