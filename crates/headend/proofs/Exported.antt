@@ -1,27 +1,26 @@
 -- What the proofs of the exported calls cite: a wrong size, and what a call on what the bytes mean leaves of them. Assumes nothing.
 use mathlib.Core.Path.{_≡_, refl, sym, ap, _∙_}
-use mathlib.Core.Bool.{Bool, true, false}
+use mathlib.Core.Bool.{Bool, true, false, not}
 use mathlib.Core.List.{List}
 use Prim.Native.Nat.{ℕ, _*_, _/_, _%_, _≤_}
 use lib.Dec.{eqb, leb}
 use lib.ListN.{length, take}
 use lib.Seq.{length-take-le}
-use borrow.Author.Tests.{eq-eqb, ne-eqb, eqb-true, leb-true}
+use borrow.Author.Tests.{eq-eqb, ne-eqb, eqb-true, leb-true, not-false}
 use Rattle.model.specs.declared.Control.{Control}
-use Rattle.model.specs.declared.Row.{Row}
 use Rattle.model.specs.declared.Answer.{Answer}
 use Rattle.model.specs.declared.Answer.the-variants.{Refused}
 use Rattle.model.specs.Choice.{pick, _and_}
 use Rattle.model.proofs.Choice.{and-parts}
 use Rattle.model.specs.State.{State}
 use Rattle.model.specs.Answers.{Outcome}
-use Rattle.model.specs.Calls.{Ran, runCall}
+use Rattle.model.specs.Calls.{Ran}
 use Rattle.table.specs.Words.{tableWords}
+use Rattle.wire.specs.Bytes.{allBytes}
 use Rattle.archive.specs.declared.Reply.{Reply}
-use Rattle.wire.specs.Bytes.{numbers, allBytes}
 use Rattle.archive.specs.Does.{isRefused, wordsAfter, CallDoes, RunDoes}
 use Rattle.headend.specs.Buffer.{stateIn, bytesIn, bytesOf}
-use Rattle.headend.specs.Exported.{coded, wrongBuffer, kept, called, exported, wordsIn, runBytesFit, ranBytes, runBytes}
+use Rattle.headend.specs.Exported.{coded, wrongBuffer, kept, called, exported, runBytesFit, runOn, ranBytes, runBytes}
 use Rattle.headend.specs.Exported.{CallGives, Finishes, RunGives}
 
 module _ (x : Answer) (before after : List ℕ) where
@@ -92,22 +91,25 @@ module _ (b steps slots : List ℕ) where
   run-wrong-sizes e f = rw (eq-eqb (length b) 33820 e, f) (record { result = refl; bytes = refl; slots = refl })
 
   pub run-right-sizes : length b ≡ 33820 → runBytesFit (length steps) (length slots) ≡ true
-      → runBytes b steps slots ≡ ranBytes b slots (runCall (stateIn b) (wordsIn steps) (wordsIn slots))
+      → runBytes b steps slots ≡ ranBytes b slots (runOn b steps slots (length steps / 4) (length slots / 4))
   unfolding runBytes wrongBuffer
   run-right-sizes e f = rw (eq-eqb (length b) 33820 e, f)
 
--- what the sizes of a run say
+-- what the sizes of a run say, as `run_fits` has tested them
 pub record RunFit (steps slots : ℕ) : Type 0 where
+  pub fits : runBytesFit steps slots ≡ true
   pub most : steps ≤ 81920
   pub whole : steps % 20 ≡ 0
   pub each : slots ≡ 8 * (steps / 20)
 
-pub run-fit : (steps slots : ℕ) → runBytesFit steps slots ≡ true → RunFit steps slots
+pub run-fit : (steps slots : ℕ) {r : Bool} → r ≡ runBytesFit steps slots → not r ≡ false → RunFit steps slots
 unfolding runBytesFit
-run-fit steps slots e =
-    let p = and-parts (leb steps 81920) (eqb (steps % 20) 0 and eqb slots (8 * (steps / 20))) e in
+run-fit steps slots {r} e f =
+    let fits = sym e ∙ not-false r f in
+    let p = and-parts (leb steps 81920) (eqb (steps % 20) 0 and eqb slots (8 * (steps / 20))) fits in
     let q = and-parts (eqb (steps % 20) 0) (eqb slots (8 * (steps / 20))) (p .1) in
     record {
+      fits = fits;
       most = leb-true steps 81920 (p .0);
       whole = eqb-true (steps % 20) 0 (q .0);
       each = eqb-true slots (8 * (steps / 20)) (q .1);
@@ -119,6 +121,6 @@ four-times x n l h e = e ∙ ap (λ (k : ℕ). 4 * k) (sym (length-take-le n l h
 
 pub run-through : (b steps slots ws xs : List ℕ) {n : ℕ} {after left : List ℕ} → length b ≡ 33820
     → runBytesFit (length steps) (length slots) ≡ true → length ws ≡ length steps / 4 → length xs ≡ length slots / 4
-    → RunGives n after left (ranBytes b slots (runCall (stateIn b) (numbers 4 (length ws) steps 0) (numbers 4 (length xs) slots 0)))
+    → RunGives n after left (ranBytes b slots (runOn b steps slots (length ws) (length xs)))
     → RunGives n after left (runBytes b steps slots)
 run-through b steps slots ws xs e f p q R = rw (run-right-sizes b steps slots e f, ← p, ← q) R

@@ -47,7 +47,8 @@ joined [] = []
 joined (x ∷ l) = allBytes (x .0) (x .1) ++ joined l
 
 abbrev pub moveParts : Move → List Part
-moveParts v = (4, v .stage ∷ []) ∷ (4, v .meter ∷ []) ∷ (2, v .from ∷ []) ∷ (2, v .target ∷ []) ∷ (4, v .copied ∷ []) ∷ []
+moveParts v =
+    (4, v .stage ∷ []) ∷ (4, v .meter ∷ []) ∷ (2, v .from ∷ []) ∷ (2, v .target ∷ []) ∷ (4, v .copied ∷ []) ∷ []
 
 abbrev pub countParts : Control → List Part
 countParts c = (4, c .begun ∷ []) ∷ (4, c .committed ∷ []) ∷ (4, c .aborted ∷ []) ∷ []

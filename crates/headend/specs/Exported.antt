@@ -57,9 +57,9 @@ auditResult b = exported b auditCall .result
 unfoldable pub runBytesFit : ℕ → ℕ → Bool
 runBytesFit steps slots = leb steps 81920 and eqb (steps % 20) 0 and eqb slots (8 * (steps / 20))
 
--- the words in the bytes of steps or slots
-abbrev pub wordsIn : List ℕ → List ℕ
-wordsIn b = numbers 4 (length b / 4) b 0
+-- the run on the first n words of the steps and the first m of the slots
+abbrev pub runOn : List ℕ → List ℕ → List ℕ → ℕ → ℕ → Ran
+runOn b steps slots n m = runCall (stateIn b) (numbers 4 n steps 0) (numbers 4 m slots 0)
 
 pub record RanBytes : Type 0 where
   pub result : ℕ
@@ -78,8 +78,8 @@ unfoldable pub runBytes : List ℕ → List ℕ → List ℕ → RanBytes
 runBytes b steps slots =
     ranBytes b slots
     (refuse (1 if wrongBuffer b ∷ 1 if not (runBytesFit (length steps) (length slots)) ∷ [])
-    (λ n. ran (Refused n) (wordsIn slots) (stateIn b))
-    (runCall (stateIn b) (wordsIn steps) (wordsIn slots)))
+    (λ n. ran (Refused n) [] (stateIn b))
+    (runOn b steps slots (length steps / 4) (length slots / 4)))
 
 -- What the functions do
 pub record Finishes (r : ℕ) (b before : List ℕ) (x : Answer) (after : List ℕ) : Type 0 where

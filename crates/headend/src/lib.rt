@@ -5,12 +5,11 @@ ghost use Prim.Native.Nat.{_*_};
 ghost use lib.ListN.{length};
 ghost use Rattle.model.specs.Records.{laid};
 ghost use Rattle.model.specs.Steps.{step};
-ghost use Rattle.model.specs.Calls.{runCall};
-ghost use Rattle.wire.specs.Bytes.{numbers, allBytes};
+ghost use Rattle.wire.specs.Bytes.{allBytes};
 ghost use Rattle.archive.specs.Does.{meant, isRefused};
 ghost use Rattle.headend.specs.Buffer.{moveIn, controlIn, joined, moveParts, countParts, controlParts, bytesIn, stateIn};
-ghost use Rattle.headend.specs.Exported.{coded, kept, freshBytes, stepBytes, fillResult, auditResult, runBytesFit, ranBytes, runBytes};
-ghost use Rattle.headend.specs.Exported.{CallGives, RunGives, Finishes};
+ghost use Rattle.headend.specs.Exported.{coded, kept, freshBytes, stepBytes, fillResult, auditResult, runBytesFit, runOn, runBytes};
+ghost use Rattle.headend.specs.Exported.{ranBytes, CallGives, RunGives, Finishes};
 use model::Answer;
 use model::Control;
 use model::Move;
@@ -122,7 +121,8 @@ fn is_refused(answer: Answer) -> bool
 // A refused call writes no byte of the buffer.
 fn finish(b: &mut [u8], control: Control, arena: &[u32], table: &[u32], answer: Answer) -> u64
     requires { ⌜ (length (now b) ≡ 33820) × (length (now arena) ≡ 8192) × (length (now table) ≡ 96) ⌝ }
-    ensures { λ r. ⌜ Finishes r (now (b .exit)) (now (b .entry)) answer (bytesIn control (now (arena .entry)) (now (table .entry))) ⌝ }
+    ensures { λ r. ⌜ Finishes r (now (b .exit)) (now (b .entry)) answer
+        (bytesIn control (now (arena .entry)) (now (table .entry))) ⌝ }
 {
     if is_refused(answer) {
         return coded(answer);
@@ -232,8 +232,11 @@ fn run_words(
     words: &mut [u32],
     answers: &mut [u32],
 ) -> u64
-    requires { ⌜ (length (now buffer) ≡ 33820) × (length (now steps) ≡ 4 * length (now words)) × (length (now slots) ≡ 4 * length (now answers)) ⌝ }
-    ensures { λ r. ⌜ RunGives r (now (buffer .exit)) (now (slots .exit)) (ranBytes (now (buffer .entry)) (now (slots .entry)) (runCall (stateIn (now (buffer .entry))) (numbers 4 (length (now (words .entry))) (now (steps .entry)) 0) (numbers 4 (length (now (answers .entry))) (now (slots .entry)) 0))) ⌝ }
+    requires { ⌜ (length (now buffer) ≡ 33820) × (length (now steps) ≡ 4 * length (now words))
+        × (length (now slots) ≡ 4 * length (now answers)) ⌝ }
+    ensures { λ r. ⌜ RunGives r (now (buffer .exit)) (now (slots .exit)) (ranBytes (now (buffer .entry)) (now (slots .entry))
+        (runOn (now (buffer .entry)) (now (steps .entry)) (now (slots .entry)) (length (now (words .entry)))
+        (length (now (answers .entry))))) ⌝ }
 {
     let mut arena = [0u32; 8192];
     let mut table = [0u32; 96];
@@ -249,7 +252,8 @@ fn run_words(
 
 #[no_mangle]
 pub extern "C" fn tangvrak_run(buffer: &mut [u8], steps: &[u8], slots: &mut [u8]) -> u64
-    ensures { λ r. ⌜ RunGives r (now (buffer .exit)) (now (slots .exit)) (runBytes (now (buffer .entry)) (now (steps .entry)) (now (slots .entry))) ⌝ }
+    ensures { λ r. ⌜ RunGives r (now (buffer .exit)) (now (slots .exit))
+        (runBytes (now (buffer .entry)) (now (steps .entry)) (now (slots .entry))) ⌝ }
 {
     if buffer.len() != BUFFER {
         return coded(Answer::Refused(1));

@@ -1,6 +1,6 @@
 -- `headend::coded` meets its contract: the answer in the high half, the value in the low half. Assumes nothing.
-use Rattle.headend.specs.Exported.{coded}
 use borrow.Author.Needs.{needs}
+use Rattle.headend.specs.Exported.{coded}
 use Rattle.headend.proofs.coded.Statement.{statement}
 use Rattle.headend.proofs.coded.Tie as tie
 

@@ -1,6 +1,6 @@
 -- `headend::control_in` meets its contract: directory, map, move and counts at their places. Assumes nothing.
-use Rattle.headend.specs.Buffer.{controlIn}
 use borrow.Author.Needs.{needs}
+use Rattle.headend.specs.Buffer.{controlIn}
 use Rattle.headend.proofs.control_in.Statement.{statement}
 use Rattle.headend.proofs.control_in.Tie as tie
 

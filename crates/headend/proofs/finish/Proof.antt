@@ -1,7 +1,7 @@
 -- `headend::finish` meets its contract: nothing is written where the answer refuses, else all bytes. Assumes nothing.
-use Rattle.headend.proofs.Exported.{kept-refused, kept-accepted}
 use mathlib.Core.Path.{sym, _∙_}
 use borrow.Author.Needs.{needs}
+use Rattle.headend.proofs.Exported.{kept-refused, kept-accepted}
 use Rattle.headend.proofs.finish.Statement.{statement}
 use Rattle.headend.proofs.finish.Tie as tie
 

@@ -1,8 +1,8 @@
 -- `headend::run_fits` meets its contract: the three tests in order. Assumes nothing.
-use Rattle.headend.specs.Exported.{runBytesFit}
 use native.Mathlib.Omega.{arith}
 use borrow.Author.Tests.{eq-eqb, ne-eqb, le-leb, lt-leb}
 use borrow.Author.Needs.{needs}
+use Rattle.headend.specs.Exported.{runBytesFit}
 use Rattle.headend.proofs.run_fits.Statement.{statement}
 use Rattle.headend.proofs.run_fits.Tie as tie
 

@@ -1,9 +1,9 @@
--- `headend::run_words` meets its contract: the run on what the bytes mean; slots and buffer are written where it is accepted. Assumes nothing.
-use Prim.Native.Nat.{ℕ, _*_}
+-- `headend::run_words` meets its contract: the run on what the bytes mean; slots and buffer are written where it is accepted.
+-- Assumes nothing.
 use mathlib.Core.Path.{sym, ap, _∙_}
-use Rattle.headend.proofs.Exported.{run-gives}
-use native.Mathlib.Omega.{arith}
+use Prim.Native.Nat.{ℕ, _*_}
 use borrow.Author.Needs.{needs}
+use Rattle.headend.proofs.Exported.{run-gives}
 use Rattle.headend.proofs.run_words.Statement.{statement}
 use Rattle.headend.proofs.run_words.Tie as tie
 
@@ -35,7 +35,9 @@ slots-out-requires : tie.Need-slots-out-requires
 slots-out-requires c κs =
     let c2 = c .before .before .before .before in
     let c1 = c2 .before .before .before .before .before .before .before .before .before in
-    let s = c1 .before .before .before .before .before .before .before .before .before .before .before .before .before .before .before .before .before .before .before in
+    let sa = c1 .before .before .before .before .before .before .before .before .before in
+    let sb = sa .before .before .before .before .before .before .before .before .before in
+    let s = sb .before in
     s .pre .2 ∙ ap (λ (n : ℕ). 4 * n) (sym (c2 .answers2 .given ∙ c1 .answers .given))
 
 slice-aggregate-finish : tie.Need-slice-aggregate-finish
@@ -46,8 +48,11 @@ slice-aggregate-finish-2 c = search needs
 
 finish-requires : tie.Need-finish-requires
 finish-requires c κs =
-    let c1 = c .before .before .before .before .before .before .before .before .before .before .before in
-    let s = c1 .before .before .before .before .before .before .before .before .before .before .before .before .before .before .before .before .before .before .before .before .before .before .before .before .before .before .before in
+    let c1a = c .before .before .before .before .before .before .before .before .before in
+    let c1 = c1a .before .before in
+    let sa = c1 .before .before .before .before .before .before .before .before .before in
+    let sb = sa .before .before .before .before .before .before .before .before .before in
+    let s = sb .before .before .before .before .before .before .before .before .before in
     (s .pre .0, c1 .before .arena4 .given, c1 .table4 .given)
 
 same-length : tie.Need-same-length
@@ -58,7 +63,9 @@ same-length-2 c = search needs
 
 same-length-3 : tie.Need-same-length-3
 same-length-3 c =
-    let c1 = c .before .before .before .before .before .before .before .before .before .before .before .before .before .before .before .before .before .before .before .before .before .before .before .before .before .before .before in
+    let c1a = c .before .before .before .before .before .before .before .before .before in
+    let c1b = c1a .before .before .before .before .before .before .before .before .before in
+    let c1 = c1b .before .before .before .before .before .before .before .before .before in
     c1 .words .given
 
 same-length-4 : tie.Need-same-length-4

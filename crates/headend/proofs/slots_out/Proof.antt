@@ -1,10 +1,9 @@
 -- `headend::slots_out` meets its contract: nothing is written where the answer refuses, else all slots. Assumes nothing.
-use native.Mathlib.Omega.{arith}
-use Rattle.wire.proofs.Bytes.{length-all}
-use Rattle.model.proofs.Records.{laid-all}
-use Rattle.headend.proofs.Exported.{kept-refused, kept-accepted}
-use mathlib.Core.Path.{sym, ap, _∙_}
+use mathlib.Core.Path.{sym, _∙_}
 use borrow.Author.Needs.{needs}
+use Rattle.model.proofs.Records.{laid-all}
+use Rattle.wire.proofs.Bytes.{length-all}
+use Rattle.headend.proofs.Exported.{kept-refused, kept-accepted}
 use Rattle.headend.proofs.slots_out.Statement.{statement}
 use Rattle.headend.proofs.slots_out.Tie as tie
 

@@ -1,6 +1,6 @@
 -- `headend::state_in` meets its contract: the words of arena and table, and the control record, are what the bytes mean. Assumes nothing.
-use Rattle.headend.specs.Buffer.{stateIn}
 use borrow.Author.Needs.{needs}
+use Rattle.headend.specs.Buffer.{stateIn}
 use Rattle.headend.proofs.state_in.Statement.{statement}
 use Rattle.headend.proofs.state_in.Tie as tie
 

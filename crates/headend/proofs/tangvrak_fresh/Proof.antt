@@ -1,7 +1,7 @@
 -- `headend::tangvrak_fresh` meets its contract: fresh on what the bytes mean; all bytes are written where it is accepted. Assumes nothing.
-use Rattle.headend.proofs.Exported.{wrong-size, call-gives}
-use Rattle.model.specs.Calls.{freshCall}
 use borrow.Author.Needs.{needs}
+use Rattle.model.specs.Calls.{freshCall}
+use Rattle.headend.proofs.Exported.{wrong-size, call-gives}
 use Rattle.headend.proofs.tangvrak_fresh.Statement.{statement}
 use Rattle.headend.proofs.tangvrak_fresh.Tie as tie
 

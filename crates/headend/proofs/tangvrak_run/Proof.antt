@@ -1,13 +1,13 @@
 -- `headend::tangvrak_run` meets its contract: sizes first, then the run in as many words as are lent. Assumes nothing.
-use Rattle.headend.proofs.Exported.{run-wrong-buffer, run-wrong-sizes, run-through, run-fit, four-times}
-use denote.Ref.{now}
-use lib.ListN.{length, take, replicate}
-use borrow.Author.Tests.{not-true, not-false}
-use Prim.Native.Nat.{ℕ, _/_}
-use lib.Seq.{length-take-le}
-use native.Mathlib.Omega.{arith}
 use mathlib.Core.Path.{sym, _∙_}
+use Prim.Native.Nat.{ℕ, _/_}
+use native.Mathlib.Omega.{arith}
+use lib.ListN.{length, take, replicate}
+use lib.Seq.{length-take-le}
+use denote.Ref.{now}
+use borrow.Author.Tests.{not-true}
 use borrow.Author.Needs.{needs}
+use Rattle.headend.proofs.Exported.{run-wrong-buffer, run-wrong-sizes, run-through, run-fit, four-times}
 use Rattle.headend.proofs.tangvrak_run.Statement.{statement}
 use Rattle.headend.proofs.tangvrak_run.Tie as tie
 
@@ -32,32 +32,32 @@ returns-2 c =
 array-borrow-prefix-words : tie.Need-array-borrow-prefix-words
 array-borrow-prefix-words c =
     let c1 = c .before .before in
-    let F = run-fit _ _ (sym (c1 .before .run-fits .ensures) ∙ not-false _ (c1 .if2 .left)) in
+    let F = run-fit _ _ (c1 .before .run-fits .ensures) (c1 .if2 .left) in
     omega (arith, F .most)
 
 slice-aggregate-run-words : tie.Need-slice-aggregate-run-words
 slice-aggregate-run-words c =
     let c1 = c .before .before .before in
-    let F = run-fit _ _ (sym (c1 .before .run-fits .ensures) ∙ not-false _ (c1 .if2 .left)) in
+    let F = run-fit _ _ (c1 .before .run-fits .ensures) (c1 .if2 .left) in
     sym (length-take-le _ (replicate 20480 0) (omega (arith, F .most)))
 
 array-borrow-prefix-answers : tie.Need-array-borrow-prefix-answers
 array-borrow-prefix-answers c =
     let c1 = c .before .before .before in
-    let F = run-fit _ _ (sym (c1 .before .run-fits .ensures) ∙ not-false _ (c1 .if2 .left)) in
+    let F = run-fit _ _ (c1 .before .run-fits .ensures) (c1 .if2 .left) in
     omega (arith, F .most, F .each)
 
 slice-aggregate-run-words-2 : tie.Need-slice-aggregate-run-words-2
 slice-aggregate-run-words-2 c =
     let c1 = c .before .before .before .before in
-    let F = run-fit _ _ (sym (c1 .before .run-fits .ensures) ∙ not-false _ (c1 .if2 .left)) in
+    let F = run-fit _ _ (c1 .before .run-fits .ensures) (c1 .if2 .left) in
     sym (length-take-le _ (replicate 8192 0) (omega (arith, F .most, F .each)))
 
 run-words-requires : tie.Need-run-words-requires
 run-words-requires c κs =
     let c1 = c .before .before .before .before in
     let s = c1 .before .before .before .before .before .before in
-    let F = run-fit _ _ (sym (c1 .before .run-fits .ensures) ∙ not-false _ (c1 .if2 .left)) in
+    let F = run-fit _ _ (c1 .before .run-fits .ensures) (c1 .if2 .left) in
     let n : ℕ = length (now (s .args .steps)) in
     let m : ℕ = length (now (s .args .slots)) in (
       c1 .before .before .if1 .left,
@@ -76,13 +76,12 @@ returns-3 c =
     let c2 = c .before .before .before .before .before .before in
     let c1 = c2 .before .before .before .before .before in
     let s = c1 .before .before .before .before .before .before in
-    let fit = sym (c1 .before .run-fits .ensures) ∙ not-false _ (c1 .if2 .left) in
-    let F = run-fit _ _ fit in
+    let F = run-fit _ _ (c1 .before .run-fits .ensures) (c1 .if2 .left) in
     let steps = now (s .args .steps) in
     let slots = now (s .args .slots) in
     let n : ℕ = length steps / 4 in
     let m : ℕ = length slots / 4 in
-    run-through _ steps slots (take n (replicate 20480 0)) (take m (replicate 8192 0)) (c1 .before .before .if1 .left) fit
+    run-through _ steps slots (take n (replicate 20480 0)) (take m (replicate 8192 0)) (c1 .before .before .if1 .left) (F .fits)
     (length-take-le n (replicate 20480 0) (omega (arith, F .most))) (length-take-le m (replicate 8192 0) (omega (arith, F .most, F .each)))
     (c2 .run-words .ensures)
 
