@@ -9,15 +9,17 @@ use native.Mathlib.Omega.{arith}
 use lib.ListN.{length, getD, take, drop}
 use lib.Seq.{take-add, take-all, drop-drop}
 use Rattle.model.specs.State.{State, state}
+use Rattle.model.specs.Rules.{firstBroken}
 use Rattle.model.proofs.Says.{All, all-get}
 use Rattle.model.proofs.Sizes.{Sizes}
+use Rattle.model.proofs.Readings.{says-R6, sound-of}
 use Rattle.table.specs.Words.{tableWords, isRow, rowsOf}
 use Rattle.table.proofs.FourHolds.{four-of-all}
-use Rattle.table.proofs.Rows.{length-words, rows-of-words, words-of-rows}
+use Rattle.table.proofs.Rows.{length-words, rows-of-words, words-of-rows, sound-words}
 use Rattle.wire.specs.Bytes.{numbers, allBytes}
 use Rattle.wire.proofs.Bytes.{length-all, length-numbers}
 use Rattle.wire.proofs.RoundTrip.{InBytes, IsByte, numbers-skip, numbers-of-all, all-of-numbers, numbers-one}
-use Rattle.headend.specs.Buffer.{Part, joined, controlParts, moveIn, controlIn, tableIn, stateIn, bytesIn, bytesOf}
+use Rattle.headend.specs.Buffer.{Part, joined, controlParts, moveIn, controlIn, arenaIn, tableIn, stateIn, bytesIn, bytesOf}
 
 -- docs/LAYOUT.md: how many bytes a number has, and how many numbers
 abbrev Room : Type 0
@@ -118,11 +120,21 @@ joined-of-parts (x ∷ l) b at B h =
     (ap₂ (λ (y z : List ℕ). y ++ z) (all-of-numbers (x .0) (x .1) b at B (omega arith))
     (joined-of-parts l b (at + x .0 * x .1) B (omega arith)))
 
--- a buffer whose eight rows are rows
-pub bytes-of-state : (b : List ℕ) → length b ≡ 33820 → All IsByte b → ((i : ℕ) → i < 8 → isRow (tableIn b) (12 * i) ≡ true)
-    → bytesOf (stateIn b) ≡ b
-unfolding bytesOf bytesIn stateIn controlIn moveIn
-bytes-of-state b e B h =
-    let t : tableWords (rowsOf (tableIn b)) ≡ tableIn b = words-of-rows (tableIn b) (length-numbers 4 96 b 33436) h in
-    let p : partsOf (stateIn b) ≡ partsIn layout b 0 = rw t (simp numbers-one) in
-    ap joined p ∙ joined-of-parts layout b 0 (λ i. all-get IsByte b i B (omega arith)) (omega arith) ∙ take-all 33820 b (omega arith)
+module _ (b : List ℕ) (e : length b ≡ 33820) (B : All IsByte b) where
+  same-buffer : tableWords (rowsOf (tableIn b)) ≡ tableIn b → bytesOf (stateIn b) ≡ b
+  unfolding bytesOf bytesIn stateIn controlIn moveIn
+  same-buffer t =
+      let p : partsOf (stateIn b) ≡ partsIn layout b 0 = rw t (simp numbers-one) in
+      ap joined p ∙ joined-of-parts layout b 0 (λ i. all-get IsByte b i B (omega arith)) (omega arith) ∙ take-all 33820 b (omega arith)
+
+  -- a buffer whose eight rows are rows
+  pub bytes-of-state : ((i : ℕ) → i < 8 → isRow (tableIn b) (12 * i) ≡ true) → bytesOf (stateIn b) ≡ b
+  bytes-of-state h = same-buffer (words-of-rows (tableIn b) (length-numbers 4 96 b 33436) h)
+
+  -- so each sound one, since bytes that mean no row break R6
+  pub bytes-of-sound : firstBroken (stateIn b) ≡ 0 → bytesOf (stateIn b) ≡ b
+  unfolding stateIn
+  bytes-of-sound s =
+      let c = controlIn b in
+      let r = says-R6 (c .dir) (c .mv) (arenaIn b) (rowsOf (tableIn b)) .test (sound-of (stateIn b) s .r6) in
+      same-buffer (sound-words (c .dir) (c .mv) (arenaIn b) (tableIn b) (length-numbers 4 96 b 33436) r)
