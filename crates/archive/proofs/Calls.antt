@@ -122,7 +122,7 @@ module _ (c : Control) (a t : List ℕ) where
   unfolding fillCall refusalOf
   fill-goes n e f =
       let s : State = meant c a t in
-      rw (accepted-by-given (1 if wrongSize s ∷ 2 if unsound s ∷ []) (refused s) (outcome (Done (fill (c .map))) s) tt e)
+      rw (accepted-by-given (1 if wrongSize s ∷ 2 if unsound s ∷ []) (refused s) (outcome (Done (fill (c .map))) s) refl e)
       (record { answer = ap Done f; control = refl })
 
 -- A step that is not refused by 1 or 2: where it is refused by another number the words are as before
@@ -144,7 +144,7 @@ step-goes c a t slots who code x y v {r} {b} {u} {w} e l d =
     let T : Step = step who code x y v in
     let ws : List ℕ = who ∷ code ∷ x ∷ y ∷ v ∷ [] in
     let P : Passes c a t = passes c a t e in
-    let o : stepCall s T ≡ act s T = accepted-by-given (1 if wrongSize s ∷ 2 if unsound s ∷ []) (refused s) (act s T) tt e in
+    let o : stepCall s T ≡ act s T = accepted-by-given (1 if wrongSize s ∷ 2 if unsound s ∷ []) (refused s) (act s T) refl e in
     let g : RunDoes b u w r (turnsFrom ws 0 4096 (going (lentOf s) slots (Done 0))) = rw (P .words) d in
     let h = rw (run-one ws slots (Done 0) s (P .rows) refl l) at g in
     let A : Answered s (act s T) = rw o at (answered s T) in
@@ -188,7 +188,7 @@ run-goes c a t ws slots {r} {b} {u} {w} q e d =
     let fives : length ws % 5 ≡ 0 = eqb-true (length ws % 5) 0 (f .0) in
     let twos : length slots ≡ 2 * (length ws / 5) = eqb-true (length slots) (2 * (length ws / 5)) (f .1) in
     let o : runCall s ws slots ≡ R =
-    rw q (accepted-by-given (1 if wrongSize s ∷ 2 if unsound s ∷ []) (λ n. ran (Refused n) slots s) R tt e) in
+    rw q (accepted-by-given (1 if wrongSize s ∷ 2 if unsound s ∷ []) (λ n. ran (Refused n) slots s) R refl e) in
     let g : RunDoes b u w r (turnsFrom ws 0 4096 (going (lentOf s) slots (Done 0))) = rw (P .words) d in
     let W : Went slots 0 (turnsFrom ws 0 4096 (going (lentOf s) slots (Done 0))) R =
     run-steps (length ws / 5) 4096 0 ws slots (Done 0) s (P .rows) (omega arith) refl (omega arith) (omega arith) in
