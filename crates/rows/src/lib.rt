@@ -1,8 +1,8 @@
-// "The client table is lent as eight rows": thin functions over a lent slice of eight row structs.
-// Holds no logic of its own: the rows are taken out by value, the words' library works on them, and they are put back.
+// "The client table is lent as eight rows, one for each client": the rows of a lent slice, taken out by value and put back.
+// Knows nothing of steps; a table of another length is not looked into.
 ghost use mathlib.Core.Path.{_≡_};
 ghost use mathlib.Core.List.{[]};
-ghost use Rattle.lent.specs.Eight.{eightOf, taken, putBack};
+ghost use Rattle.rows.specs.Eight.{eightOf, taken, putBack};
 use model::Phase;
 use model::Row;
 

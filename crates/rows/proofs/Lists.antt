@@ -11,8 +11,8 @@ use lib.Seq.{drop-cons}
 use borrow.Author.Tests.{eq-eqb, eqb-true}
 use Rattle.model.specs.declared.Row.{Row}
 use Rattle.model.specs.Rows.{freshRow}
-use Rattle.lent.specs.declared.Eight.{Eight}
-use Rattle.lent.specs.Eight.{rowsIn, rowOf, eightOf, taken, putBack}
+use Rattle.rows.specs.declared.Eight.{Eight}
+use Rattle.rows.specs.Eight.{rowsIn, rowOf, eightOf, taken, putBack}
 
 -- what lies from row i on is row i and what lies behind it
 from-row : (t : List Row) (i : ℕ) {rest : List Row} → i < length t → rest ≡ drop (suc i) t → rowOf t i ∷ rest ≡ drop i t

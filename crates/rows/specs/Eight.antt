@@ -6,7 +6,7 @@ use lib.ListN.{length, getD}
 use Rattle.model.specs.declared.Row.{Row}
 use Rattle.model.specs.Choice.{pick}
 use Rattle.model.specs.Rows.{freshRow}
-use Rattle.lent.specs.declared.Eight.{Eight}
+use Rattle.rows.specs.declared.Eight.{Eight}
 
 -- "eight rows, one for each client", in order
 abbrev pub rowsIn : Eight → List Row

@@ -1,4 +1,4 @@
--- `lent::put_rows` meets its contract: a walk of its MIR, by hand. A table of another length is left alone. For a table of eight the
+-- `rows::put_rows` meets its contract: a walk of its MIR, by hand. A table of another length is left alone. For a table of eight the
 -- borrow is opened once; row by row, a row is taken out and stored to; the borrow is closed at the eight rows.
 -- Assumes nothing.
 use mathlib.Core.Path.{_≡_, refl, sym, ap, _∙_, subst}
@@ -41,17 +41,17 @@ use denote.Exit.{yes}
 use Rattle.model.specs.declared.Row.{Row}
 use Rattle.model.proofs.Row as T
 use Rattle.model.proofs.Row.Laws as T′
-use Rattle.lent.specs.declared.Eight.{Eight}
-use Rattle.lent.specs.Eight.{putBack}
-use Rattle.lent.proofs.Eight as E
-use Rattle.lent.proofs.Eight.Laws as E′
-use Rattle.lent.proofs.Rows.{stored, not-eight, is-eight, put-eight, put-other}
-use Rattle.lent.proofs.Steps.{R, row-out, row-put}
-use Rattle.lent.proofs.put_rows.Key.{name as #lent·put-rows}
-use Rattle.lent.proofs.put_rows as put-rows
-use Rattle.lent.proofs.put_rows.Statement as stated
-use Rattle.lent.proofs.put_rows.Code as code
-use Rattle.lent.proofs.put_rows.Code.Mir as piece
+use Rattle.rows.specs.declared.Eight.{Eight}
+use Rattle.rows.specs.Eight.{putBack}
+use Rattle.rows.proofs.Eight as E
+use Rattle.rows.proofs.Eight.Laws as E′
+use Rattle.rows.proofs.Lists.{stored, not-eight, is-eight, put-eight, put-other}
+use Rattle.rows.proofs.Steps.{R, row-out, row-put}
+use Rattle.rows.proofs.put_rows.Key.{name as #rows·put-rows}
+use Rattle.rows.proofs.put_rows as put-rows
+use Rattle.rows.proofs.put_rows.Statement as stated
+use Rattle.rows.proofs.put_rows.Code as code
+use Rattle.rows.proofs.put_rows.Code.Mir as piece
 
 abbrev stayed : Stays (put-rows.ended .signature .params) (put-rows.ended .kept)
 stayed = (stay-slice (0 ∷ []) tt (plain (λ _. R)), (stay-none (λ _. E.the-row) yes, tt))
@@ -160,7 +160,7 @@ module _ {M : Type 1} (𝓤 : URA M) (H : Heap 𝓤) (A : Atoms 𝓤) (W : Given
         -- another length
         (λ other. assigns ! (of-opd ! (unit-lit !)) (from ! (stop !)) (init ! 24 refl (tt, tt)) $
         returns-within ! Post refl (look ! 24 refl) $ forget ! 16 refl $ forget ! 18 refl $ forget ! 20 refl $ forget ! 22 refl $
-        forget ! 24 refl $ 
+        forget ! 24 refl $
         move ! (24 ∷ 25 ∷ []) $ free1 ! $ move ! (22 ∷ 23 ∷ []) $ free1 ! $ move ! (20 ∷ 21 ∷ []) $ free1 ! $ move ! (18 ∷ 19 ∷ []) $
         free1 ! $ move ! (16 ∷ 17 ∷ []) $ free1 ! $ move ! (14 ∷ 15 ∷ []) $ free1 ! $ move ! (12 ∷ 13 ∷ []) $ free1 ! $
         move ! (10 ∷ 11 ∷ []) $ free1 ! $ move ! (8 ∷ 9 ∷ []) $ free1 ! $ move ! (6 ∷ 7 ∷ []) $ free1 ! $ move ! (4 ∷ 5 ∷ []) $
@@ -248,7 +248,7 @@ module _ {M : Type 1} (𝓤 : URA M) (H : Heap 𝓤) (A : Atoms 𝓤) (W : Given
         assigns ! (of-opd ! (unit-lit !)) (from ! (stop !)) (init ! 30 refl (tt, tt)) $
         returns ! (look ! 30 refl) $ forget ! 6 refl $ forget ! 8 refl $ forget ! 10 refl $ forget ! 12 refl $ forget ! 14 refl $
         forget ! 16 refl $ forget ! 18 refl $ forget ! 20 refl $ forget ! 22 refl $ forget ! 24 refl $ forget ! 26 refl $
-        forget ! 28 refl $ forget ! 30 refl $ 
+        forget ! 28 refl $ forget ! 30 refl $
         move ! (30 ∷ 31 ∷ []) $ free1 ! $ move ! (28 ∷ 29 ∷ []) $ free1 ! $ move ! (26 ∷ 27 ∷ []) $ free1 ! $ move ! (24 ∷ 25 ∷ []) $
         free1 ! $ move ! (22 ∷ 23 ∷ []) $ free1 ! $ move ! (20 ∷ 21 ∷ []) $ free1 ! $ move ! (18 ∷ 19 ∷ []) $ free1 ! $
         move ! (16 ∷ 17 ∷ []) $ free1 ! $ move ! (14 ∷ 15 ∷ []) $ free1 ! $ move ! (12 ∷ 13 ∷ []) $ free1 ! $ move ! (10 ∷ 11 ∷ []) $
@@ -281,5 +281,5 @@ pub put-rows-spec : {M : Type 1} → stated.statement M
 unfolding code.routine tablesOf
 put-rows-spec 𝓤 H 𝓜 𝓖 𝓡 =
     entered 𝓤 H (tripleOf 𝓤 H (𝓖 .A) put-rows.signature (put-rows.spec 𝓤 H (𝓖 .A) (𝓜 .mem) (𝓡 .run)))
-    (tables 𝓤 H 𝓜 𝓡 code.env .C) (tables 𝓤 H 𝓜 𝓡 code.env .Λ) #lent·put-rows code.function (code.unfolded 𝓤 H 𝓜 𝓡)
+    (tables 𝓤 H 𝓜 𝓡 code.env .C) (tables 𝓤 H 𝓜 𝓡 code.env .Λ) #rows·put-rows code.function (code.unfolded 𝓤 H 𝓜 𝓡)
     (put-rows-meets 𝓤 H (𝓖 .A) (givenOf 𝓤 H 𝓜 𝓖) (𝓜 .mem) (𝓡 .run) (tablesOf 𝓤 H 𝓜 (tables 𝓤 H 𝓜 𝓡 code.env)))

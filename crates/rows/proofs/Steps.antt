@@ -18,7 +18,7 @@ use Rattle.model.specs.declared.Row.{Row}
 use Rattle.model.specs.Rows.{freshRow}
 use Rattle.model.proofs.Row as T
 use Rattle.model.proofs.Row.Laws as T′
-use Rattle.lent.specs.Eight.{rowOf}
+use Rattle.rows.specs.Eight.{rowOf}
 
 abbrev pub R : RattleType
 R = T.the-row
