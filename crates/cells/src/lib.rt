@@ -27,7 +27,7 @@ pub fn is_used(map: [u64; 16], c: u32) -> bool
 }
 
 // n ones from bit k on: those of the word itself.
-fn low_mask(k: u32, n: u32) -> u64
+pub fn low_mask(k: u32, n: u32) -> u64
     requires { ⌜ (k < 64) × (n < 64) ⌝ }
     ensures { λ r. ⌜ r ≡ lowMask k n ⌝ }
 {
@@ -36,7 +36,7 @@ fn low_mask(k: u32, n: u32) -> u64
 }
 
 // Those that run over into the next word.
-fn high_mask(k: u32, n: u32) -> u64
+pub fn high_mask(k: u32, n: u32) -> u64
     requires { ⌜ (k < 64) × (n < 64) ⌝ }
     ensures { λ r. ⌜ r ≡ highMask k n ⌝ }
 {

@@ -1,10 +1,11 @@
 -- Laws of choosing and testing.
-use mathlib.Core.Path.{_≡_, refl, sym}
-use mathlib.Core.Bool.{Bool, true, false}
+use mathlib.Core.Path.{_≡_, refl, sym, _∙_}
+use mathlib.Core.Bool.{Bool, true, false, not}
 use mathlib.Core.Logic.{_⊎_, inl, inr, ⊎-elim}
 use Prim.Native.Nat.{ℕ, zero, suc, _≤_, _<_, zero-le, suc-le-suc}
 use native.Mathlib.Nat.{eq-or-lt-of-le}
 use native.Mathlib.Omega.{arith}
+use borrow.Author.Tests.{not-true, not-false}
 use Rattle.model.specs.Choice.{pick, _and_, every}
 
 -- a test does not come out both ways
@@ -29,6 +30,18 @@ and-parts false q e = clash false e refl
 pub and-true : (p q : Bool) → p ≡ true → q ≡ true → (p and q) ≡ true
 and-true true q e f = f
 and-true false q e f = e
+
+-- nothing more is asked
+pub and-yes : (p : Bool) → (p and true) ≡ p
+and-yes true = refl
+and-yes false = refl
+
+-- a call's answer r for the test p, asked by `if !r`
+pub said-yes : {p r : Bool} → r ≡ p → not r ≡ false → p ≡ true
+said-yes {p} {r} e n = sym e ∙ not-false r n
+
+pub said-no : {p r : Bool} → r ≡ p → not r ≡ true → p ≡ false
+said-no {p} {r} e n = sym e ∙ not-true r n
 
 -- which of two numbers is less; that they are equal or not
 pub order : (a b : ℕ) → (a < b) ⊎ (b ≤ a)

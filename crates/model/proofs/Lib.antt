@@ -14,5 +14,7 @@ pub mod Covers
 pub mod Fill
 pub mod Wording
 pub mod Fresh
+pub mod Headers
 pub mod Sizes
 pub mod Holds
+pub mod StageNumbers

@@ -45,6 +45,14 @@ laid-run-more a i n w =
     rw (← replicate-append-replicate n 1 w) (laid-last a i (replicate n w) w)
     ∙ ap (λ (k : ℕ). set (laid a i (replicate n w)) (i + k) w) (length-replicate n w)
 
+-- over a list of the same length they are all that is left
+pub laid-all : (a ws : List ℕ) → length a ≡ length ws → laid a 0 ws ≡ ws
+unfolding laid
+laid-all [] [] e = refl
+laid-all [] (w ∷ ws) e = absurd (omega arith)
+laid-all (x ∷ a) [] e = absurd (omega arith)
+laid-all (x ∷ a) (w ∷ ws) e = ap (λ (l : List ℕ). w ∷ l) (laid-all a ws (omega arith))
+
 -- place j, where word k of the new words lies
 pub laid-in : (arena : List ℕ) (i : ℕ) (ws : List ℕ) (j k : ℕ) → j ≡ i + k → k < length ws → j < length arena → getD (laid arena i ws) j 0 ≡ getD ws k 0
 unfolding laid

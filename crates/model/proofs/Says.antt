@@ -127,6 +127,12 @@ module _ {A : Type 0} where
   all-get P (x ∷ l) zero h p = h .0
   all-get P (x ∷ l) (suc i) h p = all-get P l i (h .1) p
 
+  -- within a list what lies past its end does not matter
+  pub getD-in : (l : List A) (i : ℕ) (d e : A) → i < length l → getD l i d ≡ getD l i e
+  getD-in [] i d e h = absurd (omega arith)
+  getD-in (x ∷ l) zero d e h = refl
+  getD-in (x ∷ l) (suc i) d e h = getD-in l i d e (omega arith)
+
   -- an index for each element, and back
   pub all-at : (P : A → Type 0) (d : A) (l : List A) → All P l → (i : ℕ) → i < length l → P (getD l i d)
   all-at P d [] h i b = absurd (omega arith)
@@ -206,6 +212,13 @@ module _ {A : Type 0} (f : A → Bool) (d : A) where
   all-every l =
       says-same (says-as (all-at Holds d l) (at-all Holds d l) (says-all f Holds (λ x. says-is (f x)) l))
       (says-every (length l) (atIndex f l d) (λ i. Holds (getD l i d)) (λ i. says-is (f (getD l i d))))
+
+  -- a walk over a list stops early, or has passed all of it
+  pub all-not : (l : List A) (i : ℕ) → i < length l → f (getD l i d) ≡ false → all f l ≡ false
+  all-not l i b e = all-every l ∙ every-not (atIndex f l d) (length l) i b e
+
+  pub all-done : (l : List A) (i : ℕ) → every i (atIndex f l d) ≡ true → i ≤ length l → length l ≤ i → all f l ≡ true
+  all-done l i e h k = all-every l ∙ every-done (atIndex f l d) (length l) i e h k
 
   -- a search finds an element, or has passed all of them
   pub any-found : (l : List A) (i : ℕ) → i < length l → f (getD l i d) ≡ true → any f l ≡ true

@@ -1,10 +1,9 @@
--- Words laid behind words, and over a whole list. Assumes nothing.
+-- Words laid behind words. Assumes nothing.
 use mathlib.Core.Path.{_≡_, refl, sym, ap, _∙_}
 use mathlib.Core.List.{List, [], _∷_, _++_}
 use Prim.Native.Nat.{ℕ, zero, suc, _+_}
 use native.Mathlib.Nat.{zero-add, suc-add}
 use native.Mathlib.Numerals.{add-one}
-use native.Mathlib.Omega.{arith}
 use lib.ListN.{length, set}
 use Rattle.model.specs.Records.{laid}
 use Rattle.model.proofs.Records.{laid-none, laid-first}
@@ -16,14 +15,6 @@ laid-append [] i xs ys = refl
 laid-append (x ∷ a) zero [] ys = refl
 laid-append (x ∷ a) zero (y ∷ xs) ys = rw zero-add (ap (λ (l : List ℕ). y ∷ l) (rw zero-add at (laid-append a zero xs ys)))
 laid-append (x ∷ a) (suc i) xs ys = rw suc-add (ap (λ (l : List ℕ). x ∷ l) (laid-append a i xs ys))
-
--- over a list of the same length they are all that is left
-pub laid-all : (a ws : List ℕ) → length a ≡ length ws → laid a 0 ws ≡ ws
-unfolding laid
-laid-all [] [] e = refl
-laid-all [] (w ∷ ws) e = absurd (omega arith)
-laid-all (x ∷ a) [] e = absurd (omega arith)
-laid-all (x ∷ a) (w ∷ ws) e = ap (λ (l : List ℕ). w ∷ l) (laid-all a ws (omega arith))
 
 -- two stores side by side
 pub two-stores : (a : List ℕ) (i x y : ℕ) → set (set a i x) (i + 1) y ≡ laid a i (x ∷ y ∷ [])

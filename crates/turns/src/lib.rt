@@ -1,0 +1,367 @@
+// One step after another on what is lent: the control record by value, arena and table as words, a row decoded for its step.
+// Knows nothing of sizes or soundness; on words that mean no rows it is still defined.
+ghost use mathlib.Core.Path.{_≡_};
+ghost use lib.ListN.{length, getD};
+ghost use Rattle.model.specs.declared.Answer.the-variants.{Done};
+ghost use Rattle.model.specs.Choice.{_and_};
+ghost use Rattle.model.specs.State.{stageOf};
+ghost use Rattle.model.specs.Steps.{keeperCodes, clientCodes, UNKNOWN};
+ghost use Rattle.keeper.specs.Kept.{advanceMove};
+ghost use Rattle.table.specs.Words.{putRow, putPhase, putSwaps};
+ghost use Rattle.turns.specs.Turns.{toldAs, numbersAt, clientLeft, lent, clearIf, keptTurn, keeperTurn, byMove};
+ghost use Rattle.turns.specs.Turns.{going, putTold, hasStep, turnsFrom, LeftDoes, MoveDoes, TurnDoes, RunDoes};
+use model::Answer;
+use model::Control;
+use model::Move;
+use model::Stepped;
+
+// "A step is five numbers: who, code, a, b, v."
+pub struct Numbers {
+    pub who: u32,
+    pub code: u32,
+    pub a: u32,
+    pub b: u32,
+    pub v: u32,
+}
+
+// 01's number and value of an answer.
+pub struct Told {
+    pub number: u32,
+    pub value: u32,
+}
+
+// What ADVANCE on the move alone leaves.
+pub struct Moving {
+    pub mv: Move,
+    pub answer: Answer,
+}
+
+// The control record after a step, or after a run of steps, and its last answer.
+pub struct Turned {
+    pub control: Control,
+    pub answer: Answer,
+}
+
+// "Values not named are 0."
+pub fn tell(answer: Answer) -> Told
+    ensures { λ r. ⌜ r ≡ toldAs answer ⌝ }
+{
+    match answer {
+        Answer::Refused(n) => Told {
+            number: n,
+            value: 0,
+        },
+        Answer::Admitted(c) => Told {
+            number: 20,
+            value: c,
+        },
+        Answer::Begun(target) => Told {
+            number: 21,
+            value: target,
+        },
+        Answer::BarrierOpen => Told {
+            number: 22,
+            value: 0,
+        },
+        Answer::CopyingStarts => Told {
+            number: 23,
+            value: 0,
+        },
+        Answer::Copied(n) => Told {
+            number: 24,
+            value: n,
+        },
+        Answer::Committed(target) => Told {
+            number: 25,
+            value: target,
+        },
+        Answer::CalledOff => Told {
+            number: 26,
+            value: 0,
+        },
+        Answer::GivenBack => Told {
+            number: 27,
+            value: 0,
+        },
+        Answer::Done(x) => Told {
+            number: 30,
+            value: x,
+        },
+        Answer::ReadyAt(target) => Told {
+            number: 31,
+            value: target,
+        },
+        Answer::WaitsOn(c) => Told {
+            number: 32,
+            value: c,
+        },
+        Answer::SwapWon => Told {
+            number: 33,
+            value: 1,
+        },
+        Answer::SwapLost => Told {
+            number: 33,
+            value: 0,
+        },
+        Answer::Got(x) => Told {
+            number: 34,
+            value: x,
+        },
+        Answer::Written => Told {
+            number: 35,
+            value: 0,
+        },
+    }
+}
+
+// "five words each"
+fn numbers_at(steps: &[u32], i: u32) -> Numbers
+    ensures { λ r. ⌜ r ≡ numbersAt (now (steps .entry)) i ⌝ }
+{
+    let k = 5 * (i as usize);
+    Numbers {
+        who: record::load(steps, k),
+        code: record::load(steps, k + 1),
+        a: record::load(steps, k + 2),
+        b: record::load(steps, k + 3),
+        v: record::load(steps, k + 4),
+    }
+}
+
+// "a two-word answer slot for each"
+fn put_answer(slots: &mut [u32], i: u32, answer: Answer)
+    ensures { λ r. ⌜ now (slots .exit) ≡ putTold (now (slots .entry)) i (toldAs answer) ⌝ }
+{
+    let k = 2 * (i as usize);
+    let x = tell(answer);
+    record::store(slots, k, x.number);
+    record::store(slots, k + 1, x.value);
+}
+
+// ATTACH, DETACH, OPEN, DROP and REST: the whole row is stored.
+fn keep_row(table: &mut [u32], i: u32, o: Stepped) -> Answer
+    ensures stored { λ r. ⌜ now (table .exit) ≡ putRow (now (table .entry)) i (o .row) ⌝ }
+    ensures told { λ r. ⌜ r ≡ o .answer ⌝ }
+{
+    let row = o.row;
+    let answer = o.answer;
+    table::put_row_at(table, i, row);
+    answer
+}
+
+// READ and WRITE change the phase alone.
+fn keep_phase(table: &mut [u32], i: u32, o: Stepped) -> Answer
+    ensures stored { λ r. ⌜ now (table .exit) ≡ putPhase (now (table .entry)) i (o .row .phase) ⌝ }
+    ensures told { λ r. ⌜ r ≡ o .answer ⌝ }
+{
+    let row = o.row;
+    let phase = row.phase;
+    let answer = o.answer;
+    table::put_phase_at(table, i, phase);
+    answer
+}
+
+// GO changes the swaps and the phase.
+fn keep_swap(table: &mut [u32], i: u32, o: Stepped) -> Answer
+    ensures stored { λ r. ⌜ now (table .exit) ≡ putPhase (putSwaps (now (table .entry)) i (o .row .swaps)) i (o .row .phase) ⌝ }
+    ensures told { λ r. ⌜ r ≡ o .answer ⌝ }
+{
+    let row = o.row;
+    let phase = row.phase;
+    let answer = o.answer;
+    table::put_swaps_at(table, i, row.swaps);
+    table::put_phase_at(table, i, phase);
+    answer
+}
+
+fn wide(x: u16) -> u32
+    ensures { λ r. ⌜ r ≡ x ⌝ }
+{
+    x as u32
+}
+
+// A client's step on row i; "Unused numbers are ignored."
+fn client(
+    arena: &mut [u32],
+    table: &mut [u32],
+    dir: &[u16; 256],
+    i: u32,
+    code: u32,
+    a: u32,
+    b: u32,
+    v: u32,
+) -> Answer
+    requires { ⌜ length (now dir) ≡ 256 ⌝ }
+    ensures { λ r. ⌜ LeftDoes (now (arena .exit)) (now (table .exit)) r (clientLeft (getD clientCodes code UNKNOWN) (now (arena .entry)) (now (table .entry)) (now (dir .entry)) i a b v) ⌝ }
+{
+    let row = table::row_at(table, i);
+    match code {
+        10 => keep_row(table, i, clients::attach(row)),
+        11 => keep_row(table, i, clients::detach(row)),
+        12 => {
+            let entry = wide(keeper::entry_of(dir, a));
+            keep_row(table, i, clients::open_hold(row, entry, a, b))
+        }
+        13 => keep_row(table, i, clients::drop_hold(row, a)),
+        14..=15 => {
+            let o = clients::start_access(arena, row, code == 15, a, b, v);
+            keep_phase(table, i, o)
+        }
+        16 => {
+            let o = clients::go(arena, row);
+            let change = o.change;
+            record::apply(arena, change);
+            keep_swap(table, i, o)
+        }
+        17 => {
+            let o = clients::rest(arena, row);
+            keep_row(table, i, o)
+        }
+        _ => Answer::Refused(4),
+    }
+}
+
+fn clear_if(table: &mut [u32], clear: bool)
+    ensures { λ r. ⌜ now (table .exit) ≡ clearIf clear (now (table .entry)) ⌝ }
+{
+    if clear {
+        table::clear_marks(table);
+    }
+}
+
+// Whether a keeper's step needs the move alone: ADVANCE, but for a second or third barrier that all have passed.
+fn by_move(code: u32, mv: Move, passed: bool) -> bool
+    ensures { λ r. ⌜ r ≡ byMove code mv passed ⌝ }
+{
+    if code == 4 {
+        !keeper::closes(mv, passed)
+    } else {
+        false
+    }
+}
+
+// 4 ADVANCE on the move alone.
+fn advance(arena: &mut [u32], table: &mut [u32], mv: Move, passed: bool) -> Moving
+    ensures { λ r. ⌜ MoveDoes (now (arena .entry)) (now (table .entry)) (now (arena .exit)) (now (table .exit)) r (advanceMove (now (arena .entry)) mv passed (stageOf (mv .stage))) ⌝ }
+{
+    let o = keeper::advance(arena, mv, passed);
+    let next = o.mv;
+    let change = o.change;
+    let answer = o.answer;
+    record::apply(arena, change);
+    clear_if(table, o.clear);
+    Moving { mv: next, answer }
+}
+
+// What a keeper's step on the whole control record leaves, stored.
+fn put_kept(arena: &mut [u32], table: &mut [u32], o: keeper::Kept) -> Turned
+    ensures { λ r. ⌜ TurnDoes (now (arena .exit)) (now (table .exit)) r (keptTurn (lent (o .control) (now (arena .entry)) (now (table .entry))) o) ⌝ }
+{
+    let control = o.control;
+    let change = o.change;
+    let answer = o.answer;
+    record::apply(arena, change);
+    clear_if(table, o.clear);
+    Turned { control, answer }
+}
+
+// The keeper's steps on the whole control record.
+fn keep(control: Control, arena: &mut [u32], table: &mut [u32], code: u32, a: u32, b: u32) -> Turned
+    ensures { λ r. ⌜ TurnDoes (now (arena .exit)) (now (table .exit)) r (keeperTurn (getD keeperCodes code UNKNOWN) (lent control (now (arena .entry)) (now (table .entry))) a b) ⌝ }
+{
+    match code {
+        1 => {
+            let o = keeper::admit(control, arena, a, b);
+            let next = o.control;
+            let answer = o.answer;
+            Turned {
+                control: next,
+                answer,
+            }
+        }
+        2 => {
+            let cell = wide(keeper::entry_of(&control.dir, a));
+            let held = table::holds_cell(table, cell);
+            let o = keeper::retire(control, arena, held, a);
+            put_kept(arena, table, o)
+        }
+        3 => {
+            let o = keeper::begin(control, arena, a);
+            put_kept(arena, table, o)
+        }
+        4 => {
+            let o = keeper::close(control, arena);
+            put_kept(arena, table, o)
+        }
+        _ => Turned {
+            control,
+            answer: Answer::Refused(4),
+        },
+    }
+}
+
+fn both(a: bool, b: bool) -> bool
+    ensures { λ r. ⌜ r ≡ (a and b) ⌝ }
+{
+    if a { b } else { false }
+}
+
+// Whether there is a step i, and a slot for it: the bounds of both, shown to the loop.
+fn has_step(words: usize, slots: usize, i: u32) -> bool
+    ensures { λ r. ⌜ r ≡ hasStep words slots i ⌝ }
+{
+    let k = i as usize;
+    both(i < 4096, both(5 * k + 4 < words, 2 * k + 1 < slots))
+}
+
+// The steps one by one, each answered in its slot; "a refused step inside it only fills its own slot".
+pub fn turns(
+    was: Control,
+    arena: &mut [u32],
+    table: &mut [u32],
+    steps: &[u32],
+    slots: &mut [u32],
+) -> Turned
+    ensures { λ r. ⌜ RunDoes (now (arena .exit)) (now (table .exit)) (now (slots .exit)) r (turnsFrom (now (steps .entry)) 0 4096 (going (lent was (now (arena .entry)) (now (table .entry))) (now (slots .entry)) (Done 0))) ⌝ }
+{
+    let mut control = was;
+    let mut last = Answer::Done(0);
+    let mut i: u32 = 0;
+    while has_step(steps.len(), slots.len(), i) {
+        let at = i;
+        i += 1;
+        let s = numbers_at(steps, at);
+        let who = s.who;
+        match who {
+            0 => {
+                let passed = table::all_passed(table);
+                let mv = control.mv;
+                if by_move(s.code, mv, passed) {
+                    let o = advance(arena, table, mv, passed);
+                    let next = o.mv;
+                    last = o.answer;
+                    control.mv = next;
+                    put_answer(slots, at, last);
+                } else {
+                    let o = keep(control, arena, table, s.code, s.a, s.b);
+                    let next = o.control;
+                    last = o.answer;
+                    control = next;
+                    put_answer(slots, at, last);
+                }
+            }
+            1..=8 => {
+                last = client(arena, table, &control.dir, who - 1, s.code, s.a, s.b, s.v);
+                put_answer(slots, at, last);
+            }
+            _ => {
+                last = Answer::Refused(3);
+                put_answer(slots, at, last);
+            }
+        }
+    }
+    Turned {
+        control,
+        answer: last,
+    }
+}
