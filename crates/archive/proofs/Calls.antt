@@ -187,7 +187,7 @@ run-goes c a t ws slots {r} {b} {u} {w} q e d =
     let o : runCall s ws slots ≡ R = rw q (accepted-by-given (1 if wrongSize s ∷ 2 if unsound s ∷ []) (λ n. ran (Refused n) slots s) R tt e) in
     let g : RunDoes b u w r (turnsFrom ws 0 4096 (going (lentOf s) slots (Done 0))) = rw (P .words) d in
     let W : Went slots 0 (turnsFrom ws 0 4096 (going (lentOf s) slots (Done 0))) R =
-        run-steps (length ws / 5) 4096 0 ws slots (Done 0) s (P .rows) (omega arith) refl (omega arith) (omega arith) in
+    run-steps (length ws / 5) 4096 0 ws slots (Done 0) s (P .rows) (omega arith) refl (omega arith) (omega arith) in
     rw o
     (record {
       answer = sym (ran-done (stepsOf ws) s);

@@ -8,7 +8,7 @@ use Prim.Native.Nat.{ℕ, _≤_}
 use native.Mathlib.Omega.{arith}
 use lib.Dec.{eqb}
 use lib.ListN.{length}
-use borrow.Author.Tests.{eq-eqb, ne-eqb, eqb-true}
+use borrow.Author.Tests.{eq-eqb, ne-eqb, eqb-true, not-false}
 use Rattle.model.specs.declared.Control.{Control}
 use Rattle.model.specs.Choice.{_and_}
 use Rattle.model.specs.State.{State}
@@ -52,10 +52,6 @@ neither : (p q : Bool) → refuse (1 if p ∷ 2 if q ∷ []) (λ (n : ℕ). n) 0
 neither true q e = absurd (omega arith)
 neither false true e = absurd (omega arith)
 neither false false e = (refl, refl)
-
-not-false : (b : Bool) → not b ≡ false → b ≡ true
-not-false true e = refl
-not-false false e = sym e
 
 pub record Passes (c : Control) (a t : List ℕ) : Type 0 where
   pub rows : Rows (meant c a t)

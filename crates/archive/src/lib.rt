@@ -61,7 +61,8 @@ fn zero(arena: &mut [u32])
 
 // "A fresh directory has all 256 meters absent."
 pub fn fresh(control: Control, arena: &mut [u32], table: &mut [u32]) -> Reply
-    ensures { λ r. ⌜ CallDoes (now (table .entry)) r (now (arena .exit)) (now (table .exit)) (freshCall (meant control (now (arena .entry)) (now (table .entry)))) ⌝ }
+    ensures { λ r. ⌜ CallDoes (now (table .entry)) r (now (arena .exit)) (now (table .exit))
+        (freshCall (meant control (now (arena .entry)) (now (table .entry)))) ⌝ }
 {
     if !right_sizes(arena, table) {
         return Reply {
@@ -103,7 +104,8 @@ pub fn step(
     b: u32,
     v: u32,
 ) -> Reply
-    ensures { λ r. ⌜ CallDoes (now (table .entry)) r (now (arena .exit)) (now (table .exit)) (stepCall (meant control (now (arena .entry)) (now (table .entry))) (step who code a b v)) ⌝ }
+    ensures { λ r. ⌜ CallDoes (now (table .entry)) r (now (arena .exit)) (now (table .exit))
+        (stepCall (meant control (now (arena .entry)) (now (table .entry))) (step who code a b v)) ⌝ }
 {
     let n = refusal(control, arena, table);
     if 0 < n {
@@ -146,7 +148,8 @@ pub fn run(
     steps: &[u32],
     answers: &mut [u32],
 ) -> Reply
-    ensures { λ r. ⌜ RunDoes (now (table .entry)) r (now (arena .exit)) (now (table .exit)) (now (answers .exit)) (runCall (meant control (now (arena .entry)) (now (table .entry))) (now (steps .entry)) (now (answers .entry))) ⌝ }
+    ensures { λ r. ⌜ RunDoes (now (table .entry)) r (now (arena .exit)) (now (table .exit)) (now (answers .exit))
+        (runCall (meant control (now (arena .entry)) (now (table .entry))) (now (steps .entry)) (now (answers .entry))) ⌝ }
 {
     if !run_sizes(steps, answers) {
         return Reply {

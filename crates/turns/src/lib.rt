@@ -192,7 +192,8 @@ fn client(
     v: u32,
 ) -> Answer
     requires { ⌜ length (now dir) ≡ 256 ⌝ }
-    ensures { λ r. ⌜ LeftDoes (now (arena .exit)) (now (table .exit)) r (clientLeft (getD clientCodes code UNKNOWN) (now (arena .entry)) (now (table .entry)) (now (dir .entry)) i a b v) ⌝ }
+    ensures { λ r. ⌜ LeftDoes (now (arena .exit)) (now (table .exit)) r
+        (clientLeft (getD clientCodes code UNKNOWN) (now (arena .entry)) (now (table .entry)) (now (dir .entry)) i a b v) ⌝ }
 {
     let row = table::row_at(table, i);
     match code {
@@ -242,7 +243,8 @@ fn by_move(code: u32, mv: Move, passed: bool) -> bool
 
 // 4 ADVANCE on the move alone.
 fn advance(arena: &mut [u32], table: &mut [u32], mv: Move, passed: bool) -> Moving
-    ensures { λ r. ⌜ MoveDoes (now (arena .entry)) (now (table .entry)) (now (arena .exit)) (now (table .exit)) r (advanceMove (now (arena .entry)) mv passed (stageOf (mv .stage))) ⌝ }
+    ensures { λ r. ⌜ MoveDoes (now (arena .entry)) (now (table .entry)) (now (arena .exit)) (now (table .exit)) r
+        (advanceMove (now (arena .entry)) mv passed (stageOf (mv .stage))) ⌝ }
 {
     let o = keeper::advance(arena, mv, passed);
     let next = o.mv;
@@ -255,7 +257,8 @@ fn advance(arena: &mut [u32], table: &mut [u32], mv: Move, passed: bool) -> Movi
 
 // What a keeper's step on the whole control record leaves, stored.
 fn put_kept(arena: &mut [u32], table: &mut [u32], o: keeper::Kept) -> Turned
-    ensures { λ r. ⌜ TurnDoes (now (arena .exit)) (now (table .exit)) r (keptTurn (lent (o .control) (now (arena .entry)) (now (table .entry))) o) ⌝ }
+    ensures { λ r. ⌜ TurnDoes (now (arena .exit)) (now (table .exit)) r
+        (keptTurn (lent (o .control) (now (arena .entry)) (now (table .entry))) o) ⌝ }
 {
     let control = o.control;
     let change = o.change;
@@ -267,7 +270,8 @@ fn put_kept(arena: &mut [u32], table: &mut [u32], o: keeper::Kept) -> Turned
 
 // The keeper's steps on the whole control record.
 fn keep(control: Control, arena: &mut [u32], table: &mut [u32], code: u32, a: u32, b: u32) -> Turned
-    ensures { λ r. ⌜ TurnDoes (now (arena .exit)) (now (table .exit)) r (keeperTurn (getD keeperCodes code UNKNOWN) (lent control (now (arena .entry)) (now (table .entry))) a b) ⌝ }
+    ensures { λ r. ⌜ TurnDoes (now (arena .exit)) (now (table .exit)) r
+        (keeperTurn (getD keeperCodes code UNKNOWN) (lent control (now (arena .entry)) (now (table .entry))) a b) ⌝ }
 {
     match code {
         1 => {
@@ -322,7 +326,8 @@ pub fn turns(
     steps: &[u32],
     slots: &mut [u32],
 ) -> Turned
-    ensures { λ r. ⌜ RunDoes (now (arena .exit)) (now (table .exit)) (now (slots .exit)) r (turnsFrom (now (steps .entry)) 0 4096 (going (lent was (now (arena .entry)) (now (table .entry))) (now (slots .entry)) (Done 0))) ⌝ }
+    ensures { λ r. ⌜ RunDoes (now (arena .exit)) (now (table .exit)) (now (slots .exit)) r
+        (turnsFrom (now (steps .entry)) 0 4096 (going (lent was (now (arena .entry)) (now (table .entry))) (now (slots .entry)) (Done 0))) ⌝ }
 {
     let mut control = was;
     let mut last = Answer::Done(0);

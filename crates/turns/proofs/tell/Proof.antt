@@ -1,134 +1,101 @@
+-- `turns::tell` meets its contract, by cases of the answer. Assumes nothing.
 use borrow.Author.Needs.{needs}
 use Rattle.turns.proofs.tell.Statement.{statement}
 use Rattle.turns.proofs.tell.Tie as tie
-use Rattle.turns.proofs.tell.Reads as reads
-use Rattle.turns.proofs.tell.Lts as lts
 
--- src/lib.rt:50:25
 enum-known-answer : tie.Need-enum-known-answer
 enum-known-answer c = search needs
 
--- src/lib.rt:51:26
 enum-known-answer-2 : tie.Need-enum-known-answer-2
 enum-known-answer-2 c = search needs
 
--- src/lib.rt:52:23
 enum-known-answer-3 : tie.Need-enum-known-answer-3
 enum-known-answer-3 c = search needs
 
--- src/lib.rt:53:32
 enum-told : tie.Need-enum-told
 enum-told c = search needs
 
--- src/lib.rt:54:34
 enum-told-2 : tie.Need-enum-told-2
 enum-told-2 c = search needs
 
--- src/lib.rt:55:24
 enum-known-answer-4 : tie.Need-enum-known-answer-4
 enum-known-answer-4 c = search needs
 
--- src/lib.rt:56:27
 enum-known-answer-5 : tie.Need-enum-known-answer-5
 enum-known-answer-5 c = search needs
 
--- src/lib.rt:57:30
 enum-told-3 : tie.Need-enum-told-3
 enum-told-3 c = search needs
 
--- src/lib.rt:58:30
 enum-told-4 : tie.Need-enum-told-4
 enum-told-4 c = search needs
 
--- src/lib.rt:59:22
 enum-known-answer-6 : tie.Need-enum-known-answer-6
 enum-known-answer-6 c = search needs
 
--- src/lib.rt:60:25
 enum-known-answer-7 : tie.Need-enum-known-answer-7
 enum-known-answer-7 c = search needs
 
--- src/lib.rt:61:25
 enum-known-answer-8 : tie.Need-enum-known-answer-8
 enum-known-answer-8 c = search needs
 
--- src/lib.rt:62:28
 enum-told-5 : tie.Need-enum-told-5
 enum-told-5 c = search needs
 
--- src/lib.rt:63:29
 enum-told-6 : tie.Need-enum-told-6
 enum-told-6 c = search needs
 
--- src/lib.rt:64:21
 enum-known-answer-9 : tie.Need-enum-known-answer-9
 enum-known-answer-9 c = search needs
 
--- src/lib.rt:65:28
 enum-told-7 : tie.Need-enum-told-7
 enum-told-7 c = search needs
 
--- src/lib.rt:46:1
 returns : tie.Need-returns
 returns c = simp (c .before .answer .given .1)
 
--- src/lib.rt:46:1
 returns-2 : tie.Need-returns-2
 returns-2 c = simp (c .before .answer2 .given .1)
 
--- src/lib.rt:46:1
 returns-3 : tie.Need-returns-3
 returns-3 c = simp (c .before .answer3 .given .1)
 
--- src/lib.rt:46:1
 returns-4 : tie.Need-returns-4
 returns-4 c = simp (c .enum-told .given .1)
 
--- src/lib.rt:46:1
 returns-5 : tie.Need-returns-5
 returns-5 c = simp (c .enum-told2 .given .1)
 
--- src/lib.rt:46:1
 returns-6 : tie.Need-returns-6
 returns-6 c = simp (c .before .answer4 .given .1)
 
--- src/lib.rt:46:1
 returns-7 : tie.Need-returns-7
 returns-7 c = simp (c .before .answer5 .given .1)
 
--- src/lib.rt:46:1
 returns-8 : tie.Need-returns-8
 returns-8 c = simp (c .enum-told3 .given .1)
 
--- src/lib.rt:46:1
 returns-9 : tie.Need-returns-9
 returns-9 c = simp (c .enum-told4 .given .1)
 
--- src/lib.rt:46:1
 returns-10 : tie.Need-returns-10
 returns-10 c = simp (c .before .answer6 .given .1)
 
--- src/lib.rt:46:1
 returns-11 : tie.Need-returns-11
 returns-11 c = simp (c .before .answer7 .given .1)
 
--- src/lib.rt:46:1
 returns-12 : tie.Need-returns-12
 returns-12 c = simp (c .before .answer8 .given .1)
 
--- src/lib.rt:46:1
 returns-13 : tie.Need-returns-13
 returns-13 c = simp (c .enum-told5 .given .1)
 
--- src/lib.rt:46:1
 returns-14 : tie.Need-returns-14
 returns-14 c = simp (c .enum-told6 .given .1)
 
--- src/lib.rt:46:1
 returns-15 : tie.Need-returns-15
 returns-15 c = simp (c .before .answer9 .given .1)
 
--- src/lib.rt:46:1
 returns-16 : tie.Need-returns-16
 returns-16 c = simp (c .enum-told7 .given .1)
 
