@@ -142,3 +142,41 @@ pub fn step(
     rows::put_rows(table, next);
     d.reply
 }
+
+// Fill, on the rows of a table that has n of them.
+fn fill_rows(control: Control, arena: &[u32], n: usize, rows: Eight) -> Reply
+    ensures { λ r. ⌜ Looks r (fillCall (state control (now (arena .entry)) (tableOf n rows))) ⌝ }
+{
+    if n != 8 {
+        let o = refused(control, rows);
+        return o.reply;
+    }
+    let words = words_of(rows);
+    archive::fill(control, arena, &words)
+}
+
+pub fn fill(control: Control, arena: &[u32], table: &[Row]) -> Reply
+    ensures { λ r. ⌜ Looks r (fillCall (state control (now (arena .entry)) (now (table .entry)))) ⌝ }
+{
+    let rows = rows::take_rows(table);
+    fill_rows(control, arena, table.len(), rows)
+}
+
+// The audit, on the rows of a table that has n of them.
+fn audit_rows(control: Control, arena: &[u32], n: usize, rows: Eight) -> Reply
+    ensures { λ r. ⌜ Looks r (auditCall (state control (now (arena .entry)) (tableOf n rows))) ⌝ }
+{
+    if n != 8 {
+        let o = refused(control, rows);
+        return o.reply;
+    }
+    let words = words_of(rows);
+    archive::audit(control, arena, &words)
+}
+
+pub fn audit(control: Control, arena: &[u32], table: &[Row]) -> Reply
+    ensures { λ r. ⌜ Looks r (auditCall (state control (now (arena .entry)) (now (table .entry)))) ⌝ }
+{
+    let rows = rows::take_rows(table);
+    audit_rows(control, arena, table.len(), rows)
+}
