@@ -143,6 +143,42 @@ pub fn step(
     d.reply
 }
 
+// A run, on the rows of a table that has n of them.
+fn run_rows(
+    control: Control,
+    arena: &mut [u32],
+    n: usize,
+    rows: Eight,
+    steps: &[u32],
+    answers: &mut [u32],
+) -> Done
+    ensures { λ r. ⌜ Runs (r .reply) (now (arena .exit)) (tableOf n (r .rows)) (now (answers .exit)) (runCall (state control (now (arena .entry)) (tableOf n rows)) (now (steps .entry)) (now (answers .entry))) ⌝ }
+{
+    if n != 8 {
+        return refused(control, rows);
+    }
+    let mut words = words_of(rows);
+    let reply = archive::run(control, arena, &mut words, steps, answers);
+    let next = rows_of(words);
+    Done { reply, rows: next }
+}
+
+pub fn run(
+    control: Control,
+    arena: &mut [u32],
+    table: &mut [Row],
+    steps: &[u32],
+    answers: &mut [u32],
+) -> Reply
+    ensures { λ r. ⌜ Runs r (now (arena .exit)) (now (table .exit)) (now (answers .exit)) (runCall (state control (now (arena .entry)) (now (table .entry))) (now (steps .entry)) (now (answers .entry))) ⌝ }
+{
+    let rows = rows::take_rows(&*table);
+    let d = run_rows(control, arena, table.len(), rows, steps, answers);
+    let next = d.rows;
+    rows::put_rows(table, next);
+    d.reply
+}
+
 // Fill, on the rows of a table that has n of them.
 fn fill_rows(control: Control, arena: &[u32], n: usize, rows: Eight) -> Reply
     ensures { λ r. ⌜ Looks r (fillCall (state control (now (arena .entry)) (tableOf n rows))) ⌝ }
