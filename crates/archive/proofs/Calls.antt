@@ -134,7 +134,7 @@ module _ (c : Control) (a t : List ℕ) where
       (record { answer = ap Done f; control = refl })
 
 -- A step that is not refused by 1 or 2: where it is refused by another number the words are as before
-words-kept : (t : List ℕ) (s : State) (o : Outcome) → Answered s o → tableWords (s .table) ≡ t
+pub words-kept : (t : List ℕ) (s : State) (o : Outcome) → Answered s o → tableWords (s .table) ≡ t
     → tableWords (o .next .table) ≡ wordsAfter t (o .answer) (o .next .table)
 unfolding wordsAfter
 words-kept t s o A e =
