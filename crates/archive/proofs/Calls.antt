@@ -6,13 +6,14 @@ use mathlib.Core.List.{List, [], _∷_}
 use Prim.Native.Nat.{ℕ, zero, suc, _*_, _/_, _%_, _≤_, _<_}
 use native.Mathlib.Omega.{arith}
 use lib.Dec.{eqb, leb, ltb}
-use lib.ListN.{length, replicate}
+use lib.ListN.{length, getD, replicate}
 use borrow.Author.Tests.{eqb-true, leb-true, ltb-true, lt-ltb}
 use Rattle.model.specs.declared.Answer.{Answer}
 use Rattle.model.specs.declared.Answer.the-variants.{Refused, Done}
 use Rattle.model.specs.declared.Control.{Control}
 use Rattle.model.specs.declared.Row.{Row}
 use Rattle.model.specs.Choice.{_and_}
+use Rattle.model.specs.Records.{none}
 use Rattle.model.specs.CellMap.{fill}
 use Rattle.model.specs.State.{State}
 use Rattle.model.specs.Answers.{Outcome, outcome, number}
@@ -26,6 +27,7 @@ use Rattle.model.proofs.Choice.{by-test, and-parts}
 use Rattle.model.proofs.Records.{laid-all}
 use Rattle.model.proofs.Refusals.{refused-by-given, accepted-by-given}
 use Rattle.model.proofs.Answered.{Answered, answered}
+use Rattle.model.proofs.Fresh.{fresh-absent}
 use Rattle.table.specs.Words.{tableWords, rowsOf, eachRow, freshen}
 use Rattle.table.proofs.Rows.{fresh-rows}
 use Rattle.turns.specs.declared.Turned.{Turned}
@@ -106,6 +108,12 @@ module _ (c : Control) (a t : List ℕ) where
         arena = f ∙ ap (λ (n : ℕ). replicate n 0) (eqb-true (length a) 8192 (p .0));
         table = g ∙ fresh-rows t (eqb-true (length t) 96 (p .1));
       })
+
+  -- "A fresh directory has all 256 meters absent.": each entry of the directory that fresh replies with
+  pub fresh-entries : {r : Reply} {b u : List ℕ} → rightSizes a t ≡ true → CallDoes t r b u (freshCall (meant c a t))
+      → (m : ℕ) → m < 256 → getD (r .control .dir) m 0 ≡ none
+  unfolding freshCall
+  fresh-entries {r} e d m h = let f : r .control ≡ freshControl = rw (size-test c a t, e) at (d .control) in rw f (fresh-absent m h)
 
   pub audit-stays : rightSizes a t ≡ false → LookDoes (reply c (Refused 1)) (auditCall (meant c a t))
   unfolding auditCall

@@ -75,8 +75,8 @@ module _ (a : List ℕ) (table : List Row) (i : ℕ) where
   abbrev whole : Stepped → Left
   whole o = left (changed a (o .change)) (tableWords (set table i (o .row))) (o .answer)
 
-  row-stored : (n : Name) (o : Stepped) → OnlyRow o → stored ATTACH a (tableWords table) i o ≡ whole o
-  row-stored n o e = left-is (o .answer) (sym (ap (changed a) e)) (put-row table i (o .row))
+  row-stored : (o : Stepped) → OnlyRow o → stored ATTACH a (tableWords table) i o ≡ whole o
+  row-stored o e = left-is (o .answer) (sym (ap (changed a) e)) (put-row table i (o .row))
 
   phase-stored : (o : Stepped) → OnlyPhase own o → stored READ a (tableWords table) i o ≡ whole o
   phase-stored o h =
@@ -93,11 +93,11 @@ module _ (a : List ℕ) (table : List Row) (i : ℕ) where
 
   pub client-stored : (n : Name) (e x y v : ℕ)
       → stored n a (tableWords table) i (clientTurn n a own e x y v) ≡ whole (clientTurn n a own e x y v)
-  client-stored ATTACH e x y v = row-stored ATTACH _ (turn-keeps OnlyRow (attachRefusals own) own (attach own) (λ n. refl) refl)
-  client-stored DETACH e x y v = row-stored DETACH _ (turn-keeps OnlyRow (restRefusals own) own (detach own) (λ n. refl) refl)
-  client-stored OPEN e x y v = row-stored OPEN _ (turn-keeps OnlyRow (openRefusals own e x y) own (openHold own y e) (λ n. refl) refl)
-  client-stored DROP e x y v = row-stored DROP _ (turn-keeps OnlyRow (dropRefusals own x) own (dropHold own x) (λ n. refl) refl)
-  client-stored REST e x y v = row-stored REST _ (turn-keeps OnlyRow (restRefusals own) own (rest a own) (λ n. refl) refl)
+  client-stored ATTACH e x y v = row-stored _ (turn-keeps OnlyRow (attachRefusals own) own (attach own) (λ n. refl) refl)
+  client-stored DETACH e x y v = row-stored _ (turn-keeps OnlyRow (restRefusals own) own (detach own) (λ n. refl) refl)
+  client-stored OPEN e x y v = row-stored _ (turn-keeps OnlyRow (openRefusals own e x y) own (openHold own y e) (λ n. refl) refl)
+  client-stored DROP e x y v = row-stored _ (turn-keeps OnlyRow (dropRefusals own x) own (dropHold own x) (λ n. refl) refl)
+  client-stored REST e x y v = row-stored _ (turn-keeps OnlyRow (restRefusals own) own (rest a own) (λ n. refl) refl)
   client-stored READ e x y v = phase-stored _ (access-phase a own (Read x y))
   client-stored WRITE e x y v = phase-stored _ (access-phase a own (Write x y v))
   client-stored GO e x y v = swap-stored _ (go-swap a own)

@@ -41,7 +41,7 @@ pub turns-end : (ws : List ℕ) (i n : ℕ) (g : Going) → length ws ≤ 5 * i 
 turns-end ws i n g h = turns-stop ws i n g (no-step (length ws) (length (g .slots)) i h)
 
 pub turns-next : (ws : List ℕ) (i n : ℕ) (g : Going) → hasStep (length ws) (length (g .slots)) i ≡ true
-    → turnsFrom ws i (suc n) g ≡ turnsFrom ws (suc i) n (after ws i g (turnOn (g .lent) (stepAt ws i)))
+    → turnsFrom ws i (suc n) g ≡ turnsFrom ws (suc i) n (after i g (turnOn (g .lent) (stepAt ws i)))
 unfolding turnsFrom
 turns-next ws i n g e = rw e
 
@@ -55,6 +55,6 @@ pub turns-more : (ws : List ℕ) (i : ℕ) (whole : Going) (c : Control) (a t s 
 turns-more ws i whole c a t s x w h e ec ea et ey ev =
     let k : 4096 - i ≡ suc (4096 - (i + 1)) = omega (arith, step-below (length ws) (length s) i h) in
     let g : Going = going (lent c a t) s x in
-    let n : turnsFrom ws i (4096 - i) g ≡ turnsFrom ws (suc i) (4096 - (i + 1)) (after ws i g (turnOn (lent c a t) (stepAt ws i))) =
+    let n : turnsFrom ws i (4096 - i) g ≡ turnsFrom ws (suc i) (4096 - (i + 1)) (after i g (turnOn (lent c a t) (stepAt ws i))) =
     rw k (turns-next ws i (4096 - (i + 1)) g h) in
     w ∙ (n ∙ rw (e, ev, ey, ec, ea, et, add-one i))

@@ -67,4 +67,4 @@ run-one ws slots x s R p q =
     let there = step-there (length ws) (length slots) 0 (omega arith) (omega arith) (omega arith) in
     turns-next ws 0 4095 (going (lentOf s) slots x) there
     ∙ turns-end ws 1 4095 _ (omega arith)
-    ∙ ap (after ws 0 (going (lentOf s) slots x)) (acts s (t .who) (t .code) (t .a) (t .b) (t .v) R .turn)
+    ∙ ap (after 0 (going (lentOf s) slots x)) (acts s (t .who) (t .code) (t .a) (t .b) (t .v) R .turn)

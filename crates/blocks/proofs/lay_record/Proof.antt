@@ -1,5 +1,6 @@
 -- `blocks::lay_record` meets its contract: the block's cells are read from the label. Assumes nothing.
-use mathlib.Core.Path.{sym, ap, _∙_}
+use Prim.Native.Nat.{ℕ, _<_}
+use mathlib.Core.Path.{sym, ap, _∙_, subst⁻¹}
 use native.Mathlib.Omega.{arith}
 use denote.Ref.{now}
 use borrow.Author.Needs.{needs}
@@ -22,7 +23,7 @@ lengths-at-requires c κs = search needs
 lay-block-requires : tie.Need-lay-block-requires
 lay-block-requires c κs =
     let b = c .before .before .before .before in (
-      rw (cells-read (now (b .args .arena)) (b .args .c) (c .before .lengths-at .ensures))
+      subst⁻¹ (λ (n : ℕ). n < 64) (cells-read (now (b .args .arena)) (b .args .c) (c .before .lengths-at .ensures))
           (cells-small (now (b .args .arena)) (b .args .c)),
       b .pre,
     )
@@ -32,8 +33,7 @@ returns-2 c =
     let b = c .before .before .before .before .before in
     let n = cells-read (now (b .args .arena)) (b .args .c) (c .before .before .lengths-at .ensures) in (
       c .lay-block .ensures .0 ∙ ap (free (now (b .args .seen)) (b .args .c)) n,
-      c .lay-block .ensures .1 ∙ ap
-          (lay (now (b .args .seen)) (b .args .c)) n,
+      c .lay-block .ensures .1 ∙ ap (lay (now (b .args .seen)) (b .args .c)) n,
     )
 
 pub lay-record-spec : {M : Type 1} → statement M

@@ -1,0 +1,4 @@
+pub mod Shared
+pub mod Words
+pub mod Calls
+pub mod Lifts
