@@ -16,7 +16,7 @@ while IFS= read -r reference; do
     IFS=', ' read -r -a wanted <<<"$names"
     for name in "${wanted[@]}"; do
         count=$((count + 1))
-        if ! grep -qE "^ *((unfoldable|abbrev|pub|record|data|fn) )*$name( |:|\(|$)" "$file"; then
+        if ! grep -qE "^ *((unfoldable|abbrev|pub|record|data|fn|extern|\"C\") )*$name( |:|\(|$)" "$file"; then
             echo "docs/PROOFS.md names $name in $file, which does not declare it"
             fail=1
         fi

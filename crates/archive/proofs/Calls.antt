@@ -3,16 +3,17 @@
 use mathlib.Core.Path.{_≡_, refl, sym, ap, _∙_}
 use mathlib.Core.Bool.{true, false}
 use mathlib.Core.List.{List, [], _∷_}
-use Prim.Native.Nat.{ℕ, zero, suc, _+_, _*_, _/_, _%_, _≤_, _<_}
+use Prim.Native.Nat.{ℕ, zero, suc, _*_, _/_, _%_, _≤_, _<_}
 use native.Mathlib.Omega.{arith}
 use lib.Dec.{eqb, leb, ltb}
-use lib.ListN.{length, replicate}
+use lib.ListN.{length, getD, replicate}
 use borrow.Author.Tests.{eqb-true, leb-true, ltb-true, lt-ltb}
 use Rattle.model.specs.declared.Answer.{Answer}
 use Rattle.model.specs.declared.Answer.the-variants.{Refused, Done}
 use Rattle.model.specs.declared.Control.{Control}
 use Rattle.model.specs.declared.Row.{Row}
-use Rattle.model.specs.Choice.{pick, _and_}
+use Rattle.model.specs.Choice.{_and_}
+use Rattle.model.specs.Records.{none}
 use Rattle.model.specs.CellMap.{fill}
 use Rattle.model.specs.State.{State}
 use Rattle.model.specs.Answers.{Outcome, outcome, number}
@@ -20,11 +21,13 @@ use Rattle.model.specs.Refusals.{_if_}
 use Rattle.model.specs.Fresh.{freshControl}
 use Rattle.model.specs.Steps.{Step, step, refused, act}
 use Rattle.model.specs.Rules.{firstBroken}
-use Rattle.model.specs.Calls.{wrongSize, unsound, freshCall, auditCall, fillCall, stepCall, Ran, ran, oneByOne, stepsFrom, stepsOf, runSizes, runCall}
+use Rattle.model.specs.Calls.{wrongSize, unsound, freshCall, auditCall, fillCall, stepCall}
+use Rattle.model.specs.Calls.{Ran, ran, oneByOne, stepsFrom, stepsOf, runSizes, runCall}
 use Rattle.model.proofs.Choice.{by-test, and-parts}
 use Rattle.model.proofs.Records.{laid-all}
 use Rattle.model.proofs.Refusals.{refused-by-given, accepted-by-given}
 use Rattle.model.proofs.Answered.{Answered, answered}
+use Rattle.model.proofs.Fresh.{fresh-absent}
 use Rattle.table.specs.Words.{tableWords, rowsOf, eachRow, freshen}
 use Rattle.table.proofs.Rows.{fresh-rows}
 use Rattle.turns.specs.declared.Turned.{Turned}
@@ -64,7 +67,8 @@ run-wrong-sizes s ws slots e = by-test (λ (r : Ran). r ≡ ran (Refused 1) slot
 refusal-small : (s : State) → refusalOf s ≤ 2
 unfolding refusalOf
 refusal-small s =
-    by-test (λ (n : ℕ). n ≤ 2) (wrongSize s) (λ _. omega arith) (λ _. by-test (λ (n : ℕ). n ≤ 2) (unsound s) (λ _. omega arith) (λ _. omega arith))
+    by-test (λ (n : ℕ). n ≤ 2) (wrongSize s) (λ _. omega arith)
+    (λ _. by-test (λ (n : ℕ). n ≤ 2) (unsound s) (λ _. omega arith) (λ _. omega arith))
 
 words-refused : (t : List ℕ) (n : ℕ) (rows : List Row) → n < 20 → t ≡ wordsAfter t (Refused n) rows
 unfolding wordsAfter
@@ -74,7 +78,8 @@ module _ (c : Control) (a t : List ℕ) where
   pub refused-does : (n : ℕ) → n ≤ 2 → CallDoes t (reply c (Refused n)) a t (refused (meant c a t) n)
   refused-does n h = record { answer = refl; control = refl; arena = refl; table = words-refused t n (rowsOf t) (omega arith) }
 
-  pub step-stays : (n : ℕ) (T : Step) → n ≡ refusalOf (meant c a t) → 0 < n → CallDoes t (reply c (Refused n)) a t (stepCall (meant c a t) T)
+  pub step-stays : (n : ℕ) (T : Step) → n ≡ refusalOf (meant c a t) → 0 < n
+      → CallDoes t (reply c (Refused n)) a t (stepCall (meant c a t) T)
   step-stays n T e h = rw (step-refused (meant c a t) n e T h) (refused-does n (rw e (refusal-small (meant c a t))))
 
   pub run-stays : (n : ℕ) (ws slots : List ℕ) → n ≤ 2 → runCall (meant c a t) ws slots ≡ ran (Refused n) slots (meant c a t)
@@ -104,6 +109,12 @@ module _ (c : Control) (a t : List ℕ) where
         table = g ∙ fresh-rows t (eqb-true (length t) 96 (p .1));
       })
 
+  -- "A fresh directory has all 256 meters absent.": each entry of the directory that fresh replies with
+  pub fresh-entries : {r : Reply} {b u : List ℕ} → rightSizes a t ≡ true → CallDoes t r b u (freshCall (meant c a t))
+      → (m : ℕ) → m < 256 → getD (r .control .dir) m 0 ≡ none
+  unfolding freshCall
+  fresh-entries {r} e d m h = let f : r .control ≡ freshControl = rw (size-test c a t, e) at (d .control) in rw f (fresh-absent m h)
+
   pub audit-stays : rightSizes a t ≡ false → LookDoes (reply c (Refused 1)) (auditCall (meant c a t))
   unfolding auditCall
   audit-stays e = rw (size-test c a t, e) (record { answer = refl; control = refl })
@@ -119,11 +130,11 @@ module _ (c : Control) (a t : List ℕ) where
   unfolding fillCall refusalOf
   fill-goes n e f =
       let s : State = meant c a t in
-      rw (accepted-by-given (1 if wrongSize s ∷ 2 if unsound s ∷ []) (refused s) (outcome (Done (fill (c .map))) s) tt e)
+      rw (accepted-by-given (1 if wrongSize s ∷ 2 if unsound s ∷ []) (refused s) (outcome (Done (fill (c .map))) s) refl e)
       (record { answer = ap Done f; control = refl })
 
 -- A step that is not refused by 1 or 2: where it is refused by another number the words are as before
-words-kept : (t : List ℕ) (s : State) (o : Outcome) → Answered s o → tableWords (s .table) ≡ t
+pub words-kept : (t : List ℕ) (s : State) (o : Outcome) → Answered s o → tableWords (s .table) ≡ t
     → tableWords (o .next .table) ≡ wordsAfter t (o .answer) (o .next .table)
 unfolding wordsAfter
 words-kept t s o A e =
@@ -141,7 +152,7 @@ step-goes c a t slots who code x y v {r} {b} {u} {w} e l d =
     let T : Step = step who code x y v in
     let ws : List ℕ = who ∷ code ∷ x ∷ y ∷ v ∷ [] in
     let P : Passes c a t = passes c a t e in
-    let o : stepCall s T ≡ act s T = accepted-by-given (1 if wrongSize s ∷ 2 if unsound s ∷ []) (refused s) (act s T) tt e in
+    let o : stepCall s T ≡ act s T = accepted-by-given (1 if wrongSize s ∷ 2 if unsound s ∷ []) (refused s) (act s T) refl e in
     let g : RunDoes b u w r (turnsFrom ws 0 4096 (going (lentOf s) slots (Done 0))) = rw (P .words) d in
     let h = rw (run-one ws slots (Done 0) s (P .rows) refl l) at g in
     let A : Answered s (act s T) = rw o at (answered s T) in
@@ -184,7 +195,8 @@ run-goes c a t ws slots {r} {b} {u} {w} q e d =
     let few : length ws ≤ 20480 = leb-true (length ws) 20480 (p .0) in
     let fives : length ws % 5 ≡ 0 = eqb-true (length ws % 5) 0 (f .0) in
     let twos : length slots ≡ 2 * (length ws / 5) = eqb-true (length slots) (2 * (length ws / 5)) (f .1) in
-    let o : runCall s ws slots ≡ R = rw q (accepted-by-given (1 if wrongSize s ∷ 2 if unsound s ∷ []) (λ n. ran (Refused n) slots s) R tt e) in
+    let o : runCall s ws slots ≡ R =
+    rw q (accepted-by-given (1 if wrongSize s ∷ 2 if unsound s ∷ []) (λ n. ran (Refused n) slots s) R refl e) in
     let g : RunDoes b u w r (turnsFrom ws 0 4096 (going (lentOf s) slots (Done 0))) = rw (P .words) d in
     let W : Went slots 0 (turnsFrom ws 0 4096 (going (lentOf s) slots (Done 0))) R =
     run-steps (length ws / 5) 4096 0 ws slots (Done 0) s (P .rows) (omega arith) refl (omega arith) (omega arith) in

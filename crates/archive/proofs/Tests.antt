@@ -4,16 +4,15 @@ use mathlib.Core.Path.{_≡_, refl, sym, _∙_}
 use mathlib.Core.Logic.{_≢_, ⊎-elim}
 use mathlib.Core.Bool.{Bool, true, false, not}
 use mathlib.Core.List.{List, [], _∷_}
-use Prim.Native.Nat.{ℕ, _≤_}
+use Prim.Native.Nat.{ℕ}
 use native.Mathlib.Omega.{arith}
 use lib.Dec.{eqb}
 use lib.ListN.{length}
 use borrow.Author.Tests.{eq-eqb, ne-eqb, eqb-true, not-false}
 use Rattle.model.specs.declared.Control.{Control}
-use Rattle.model.specs.Choice.{_and_}
 use Rattle.model.specs.State.{State}
 use Rattle.model.specs.Refusals.{_if_, refuse}
-use Rattle.model.specs.Rules.{R6, firstBroken}
+use Rattle.model.specs.Rules.{firstBroken}
 use Rattle.model.specs.Calls.{wrongSize, unsound}
 use Rattle.model.proofs.Choice.{and-parts, same-or-not}
 use Rattle.model.proofs.Readings.{says-R6, sound-of}

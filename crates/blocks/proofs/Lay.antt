@@ -3,7 +3,7 @@
 use mathlib.Core.Path.{_≡_, sym, ap, ap₂, _∙_, subst⁻¹}
 use mathlib.Core.Bool.{Bool, true}
 use mathlib.Core.List.{List}
-use mathlib.Core.Logic.{_⊎_, inl, inr, ⊎-elim}
+use mathlib.Core.Logic.{inl, inr, ⊎-elim}
 use Prim.Native.Nat.{ℕ, _+_, _*_, _/_, _%_, _^_, _<_, _≤_, min, max}
 use native.Mathlib.Omega.{arith}
 use lib.Bits.{bitAnd, bitOr, or-lt, and-lt, and-zero-l}
@@ -134,7 +134,8 @@ module _ (m : List ℕ) (c n : ℕ) (k : n < 64) where
           ∙ ap₂ max (first-keeps j hj) (high-covers c n j)
       by {x} (else ne me) hx =
           let z : covers c n x ≡ 0 = covers-far c n x (omega arith) ne me in
-          word-other (layFirst m c n) (c / 64 + 1) (highMask (c % 64) n) x me ∙ word-other m (c / 64) (lowMask (c % 64) n) x ne ∙ omega arith
+          word-other (layFirst m c n) (c / 64 + 1) (highMask (c % 64) n) x me ∙ word-other m (c / 64) (lowMask (c % 64) n) x ne
+          ∙ omega arith
 
   -- no cell of the block was used: what the test tells, and what it asks
   pub free-tells : free m c n ≡ true → (x : ℕ) → min (used m x) (covers c n x) ≡ 0
@@ -166,7 +167,8 @@ unfolding lay free
 far-block m c n l h =
     let p = word-out m (c / 64) (lowMask (c % 64) n) (omega arith) in
     let q = word-out m (c / 64 + 1) (highMask (c % 64) n) (omega arith) in
-    (rw (p .0) (q .0), rw (p .0) (and-true (freeWord m (c / 64) (lowMask (c % 64) n)) (freeWord m (c / 64 + 1) (highMask (c % 64) n)) (p .1) (q .1)))
+    let f = and-true (freeWord m (c / 64) (lowMask (c % 64) n)) (freeWord m (c / 64 + 1) (highMask (c % 64) n)) (p .1) (q .1) in
+    (rw (p .0) (q .0), rw (p .0) f)
 
 -- how the code's numbers enter: the two masks, the map after the first
 module _ (m : List ℕ) (c n : ℕ) {lo hi : ℕ} {m′ : List ℕ}

@@ -3,12 +3,11 @@
 use mathlib.Core.Path.{_≡_, refl, sym, ap, _∙_, subst, subst⁻¹}
 use mathlib.Core.Bool.{Bool, true, false}
 use mathlib.Core.List.{List}
-use Prim.Native.Nat.{ℕ, zero, suc, _+_, _<_, _≤_, min}
+use Prim.Native.Nat.{ℕ, zero, suc, _+_, _<_, _≤_}
 use native.Mathlib.Numerals.{add-one}
 use native.Mathlib.Omega.{arith}
 use lib.ListN.{length, getD, take, replicate}
 use lib.Seq.{ext-getD, take-length}
-use borrow.Author.Tests.{eq-eqb, eqb-true}
 use Rattle.model.specs.declared.Lengths.{Lengths}
 use Rattle.model.specs.declared.Move.{Move}
 use Rattle.model.specs.Choice.{pick, every, total}
@@ -16,8 +15,8 @@ use Rattle.model.specs.Kinds.{kindTable, ofKind, cells}
 use Rattle.model.specs.Records.{none, label, kindOf, cellsAt}
 use Rattle.model.specs.CellMap.{used}
 use Rattle.model.specs.State.{Stage, idle, firstBarrier, copying, secondBarrier, thirdBarrier, stageOf, entry}
-use Rattle.model.specs.Rules.{early, late, covers, recordCovers, otherCovers, blocksOver, cellRight, R3}
-use Rattle.model.proofs.Choice.{clash, every-true}
+use Rattle.model.specs.Rules.{early, late, covers, recordCovers, otherCovers, blocksOver, R3}
+use Rattle.model.proofs.Choice.{clash}
 use Rattle.model.proofs.Says.{Says, says-as, says-same, says-every, says-eq, refute}
 use Rattle.model.proofs.Readings.{CellsRight, says-R3}
 use Rattle.model.proofs.CellMap.{IsMap, used-lt, fresh-map, fresh-free, map-ext}
@@ -108,7 +107,8 @@ module _ (dir map : List ℕ) (v : Move) (arena seen : List ℕ) where
         map = lay-map seen c (cellsAt arena c) k (s .map);
         at = λ x hx.
             let add : ℕ → ℕ = recordCovers arena x in
-            let more : total add (take (i + 1) dir) ≡ total add (take i dir) + add c = ap (λ (j : ℕ). total add (take j dir)) (add-one i) ∙ total-more add none dir i h in
+            let more : total add (take (i + 1) dir) ≡ total add (take i dir) + add c =
+            ap (λ (j : ℕ). total add (take j dir)) (add-one i) ∙ total-more add none dir i h in
             laid-at seen c (cellsAt arena c) x (s .map) k hx f ∙ omega (arith, s .at x hx, record-covers arena x c hx);
       }
 
@@ -149,7 +149,8 @@ module _ (dir map : List ℕ) (v : Move) (arena seen : List ℕ) (s : Seen dir a
   pub other-stops : free seen (other .start) (other .cells) ≡ false → R3 dir map v arena ≡ false
   other-stops f =
       refute (R3 dir map v arena) (λ e.
-      met seen map (other .start) (other .cells) (s .map) small f (λ x hx. omega (arith, all-blocks x hx)) (says-R3 dir map v arena .holds e))
+      met seen map (other .start) (other .cells) (s .map) small f (λ x hx. omega (arith, all-blocks x hx))
+      (says-R3 dir map v arena .holds e))
 
   -- the words of the map built and of the map decide the rest
   pub words-decide : IsMap map → free seen (other .start) (other .cells) ≡ true
@@ -197,6 +198,6 @@ module _ (dir map : List ℕ) (v : Move) (arena seen : List ℕ) {i : ℕ} (len 
   pub end-stops : r ≡ false → R3 dir map v arena ≡ false
   end-stops t = other-stops dir map v arena seen whole (rw eb at (sym er ∙ t))
 
-  pub end-same : {next : List ℕ} {q : Bool} → IsMap map → next ≡ lay seen (b .start) (b .cells) → r ≡ true → q ≡ every 16 (sameWord next map)
-      → q ≡ R3 dir map v arena
+  pub end-same : {next : List ℕ} {q : Bool} → IsMap map → next ≡ lay seen (b .start) (b .cells) → r ≡ true
+      → q ≡ every 16 (sameWord next map) → q ≡ R3 dir map v arena
   end-same h e t f = f ∙ rw (e, eb) (words-decide dir map v arena seen whole h (rw eb at (sym er ∙ t)))

@@ -1,4 +1,4 @@
--- The four holds of a row, one by one. Assumes nothing.
+-- One of the four holds of a row, picked by its number. Assumes nothing.
 use mathlib.Core.Path.{_≡_, refl, sym, ap, _∙_}
 use mathlib.Core.Bool.{Bool, true, false}
 use mathlib.Core.List.{List, [], _∷_}
@@ -9,15 +9,8 @@ use lib.ListN.{length, getD}
 use borrow.Author.Tests.{ne-eqb}
 use Rattle.model.specs.Choice.{pick}
 use Rattle.model.specs.Rows.{holdOf, wordOf}
+use Rattle.model.proofs.Holds.{four-holds}
 use Rattle.clients.specs.Turns.{accessOf}
-
-pub four-holds : (l : List ℕ) → length l ≡ 4 → l ≡ getD l 0 0 ∷ getD l 1 0 ∷ getD l 2 0 ∷ getD l 3 0 ∷ []
-four-holds [] e = absurd (omega arith)
-four-holds (a ∷ []) e = absurd (omega arith)
-four-holds (a ∷ b ∷ []) e = absurd (omega arith)
-four-holds (a ∷ b ∷ c ∷ []) e = absurd (omega arith)
-four-holds (a ∷ b ∷ c ∷ d ∷ []) e = refl
-four-holds (a ∷ b ∷ c ∷ d ∷ x ∷ l) e = absurd (omega arith)
 
 -- one of four picked by its number
 of-four : (a b c d n h : ℕ)

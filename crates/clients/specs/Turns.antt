@@ -13,10 +13,6 @@ use Rattle.model.specs.ClientSteps.{stepped, attach, detach, openHold, dropHold
 use Rattle.model.specs.Refusals.{Refusal, refuse, attachRefusals, restRefusals, openRefusals, dropRefusals, accessRefusals, goRefusals}
 use Rattle.model.specs.Steps.{Name, ATTACH, DETACH, OPEN, DROP, READ, WRITE, GO, REST, ADMIT, RETIRE, BEGIN, ADVANCE, UNKNOWN, NOBODY}
 
--- "The lowest number that applies", or 0 where none does
-abbrev pub lowest : List Refusal → ℕ
-lowest l = refuse l (λ n. n) 0
-
 -- "All memory and the control record are then as before, and the value is 0."
 abbrev pub refusedTurn : Row → ℕ → Stepped
 refusedTurn r n = stepped r Nothing (Refused n)

@@ -10,7 +10,8 @@ ghost use Rattle.model.specs.Rows.{busy, withPhase, withSwaps};
 ghost use Rattle.model.specs.State.{rise};
 ghost use Rattle.model.specs.ClientSteps.{done, atHeader, swap, finish, forwarded};
 ghost use Rattle.model.specs.Refusals.{restRefusals, openRefusals, dropRefusals, accessRefusals};
-ghost use Rattle.clients.specs.Turns.{lowest, refusedTurn, accessOf};
+ghost use Rattle.model.proofs.Refusals.{given};
+ghost use Rattle.clients.specs.Turns.{refusedTurn, accessOf};
 ghost use Rattle.clients.specs.Turns.{attachTurn, detachTurn, openTurn, dropTurn, accessTurn, goTurn, restTurn};
 use model::Access;
 use model::Answer;
@@ -94,7 +95,7 @@ fn refused(row: Row, n: u32) -> Stepped
 
 // What refuses DETACH and REST: here and below the lowest number that applies is chosen last, 0 where none does.
 fn rest_refusal(row: Row) -> u32
-    ensures { λ r. ⌜ r ≡ lowest (restRefusals row) ⌝ }
+    ensures { λ r. ⌜ r ≡ given (restRefusals row) ⌝ }
 {
     let phase = row.phase;
     let n8 = choose(is_busy(phase), 8, 0);
@@ -102,7 +103,7 @@ fn rest_refusal(row: Row) -> u32
 }
 
 fn open_refusal(row: Row, entry: u32, meter: u32, hold: u32) -> u32
-    ensures { λ r. ⌜ r ≡ lowest (openRefusals row entry meter hold) ⌝ }
+    ensures { λ r. ⌜ r ≡ given (openRefusals row entry meter hold) ⌝ }
 {
     let phase = row.phase;
     let n10 = choose(entry == NONE, 10, 0);
@@ -113,7 +114,7 @@ fn open_refusal(row: Row, entry: u32, meter: u32, hold: u32) -> u32
 }
 
 fn drop_refusal(row: Row, hold: u32) -> u32
-    ensures { λ r. ⌜ r ≡ lowest (dropRefusals row hold) ⌝ }
+    ensures { λ r. ⌜ r ≡ given (dropRefusals row hold) ⌝ }
 {
     let phase = row.phase;
     let holds = row.holds;
@@ -126,7 +127,7 @@ fn drop_refusal(row: Row, hold: u32) -> u32
 
 // What refuses READ and WRITE, the hot steps: by early returns.
 fn access_refusal(arena: &[u32], row: Row, hold: u32, word: u32) -> u32
-    ensures { λ r. ⌜ r ≡ lowest (accessRefusals (now (arena .entry)) row hold word) ⌝ }
+    ensures { λ r. ⌜ r ≡ given (accessRefusals (now (arena .entry)) row hold word) ⌝ }
 {
     if 3 < hold {
         return 5;

@@ -28,3 +28,4 @@ pub mod Kept
 pub mod Runs
 pub mod Promised
 pub mod KeptOut
+pub mod NoWrap

@@ -48,15 +48,15 @@ same-total : {k k′ : List Row} → SameRows k k′ → total swapsOf k′ ≡ 
 same-total same = refl
 same-total {k} cleared = total-cleared k
 
-same-swaps : {k k′ : List Row} → SameRows k k′ → (i : ℕ) → getD k′ i freshRow .swaps ≡ getD k i freshRow .swaps
+pub same-swaps : {k k′ : List Row} → SameRows k k′ → (i : ℕ) → getD k′ i freshRow .swaps ≡ getD k i freshRow .swaps
 same-swaps same i = refl
 same-swaps {k} cleared i = ap swapsOf (cleared-get k i)
 
 -- 1 for the answer 33
-abbrev swapped : Answer → ℕ
+abbrev pub swapped : Answer → ℕ
 swapped x = one (eqb (number x) 33)
 
-turn-swaps : {Right : Answer → Type 0} {r r′ : Row} {x : Answer} → Turn Right r x r′ → r′ .swaps ≡ r .swaps + swapped x
+pub turn-swaps : {Right : Answer → Type 0} {r r′ : Row} {x : Answer} → Turn Right r x r′ → r′ .swaps ≡ r .swaps + swapped x
 turn-swaps {x = x} (handles e f _) = rw (ne-eqb (number x) 33 (omega arith)) (omega arith)
 turn-swaps {x = x} (readies e f _) = rw (ne-eqb (number x) 33 (omega arith)) (omega arith)
 turn-swaps {x = x} (waits-on e f _) = rw (ne-eqb (number x) 33 (omega arith)) (omega arith)

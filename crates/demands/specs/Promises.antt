@@ -97,6 +97,16 @@ SoundKept = (s : State) (t : Step) → Sizes s → firstBroken s ≡ 0 → first
 abbrev pub ReachedSound : Type 0
 ReachedSound = (l : List Step) → firstBroken (reached l) ≡ 0
 
+-- 32 bits are enough: on a sound state no count, and no row's swaps, wraps, so none falls
+pub record NoneFalls (s next : State) : Type 0 where
+  pub begun : s .control .begun ≤ next .control .begun
+  pub committed : s .control .committed ≤ next .control .committed
+  pub aborted : s .control .aborted ≤ next .control .aborted
+  pub swaps : (i : ℕ) → getD (s .table) i freshRow .swaps ≤ getD (next .table) i freshRow .swaps
+
+abbrev pub NoCountWraps : Type 0
+NoCountWraps = (s : State) (t : Step) → Sizes s → firstBroken s ≡ 0 → NoneFalls s (act s t .next)
+
 -- "A run of up to 4,096 steps .. checks soundness once and equals the steps one by one."
 abbrev pub RunIsSteps : Type 0
 RunIsSteps = (s : State) (ws slots : List ℕ) → Sizes s → runSizes ws slots ≡ true → firstBroken s ≡ 0

@@ -2,7 +2,7 @@
 use mathlib.Core.Path.{_≡_, refl, ap}
 use mathlib.Core.Bool.{Bool, true, false}
 use mathlib.Core.List.{List}
-use Prim.Native.Nat.{ℕ, zero, suc, _≤_, _<_}
+use Prim.Native.Nat.{ℕ, zero, suc, _≤_}
 use native.Mathlib.Omega.{arith}
 use Rattle.model.specs.declared.Move.{Move}
 use Rattle.model.specs.declared.Control.{Control}
@@ -32,7 +32,8 @@ pub out-of-hand : (n : ℕ) → ¬ (n ≡ 1) → ¬ (n ≡ 2) → ¬ (n ≡ 3) �
 out-of-hand n a b c d = ap inHand (no-stage n a b c d)
 
 -- at the second and third barrier the move alone answers 22
-pub late-stays : (arena : List ℕ) (v : Move) (passed : Bool) (n : ℕ) → 3 ≤ n → n ≤ 4 → advanceMove arena v passed (stageOf n) ≡ stays v BarrierOpen
+pub late-stays : (arena : List ℕ) (v : Move) (passed : Bool) (n : ℕ) → 3 ≤ n → n ≤ 4 → advanceMove arena v passed (stageOf n)
+    ≡ stays v BarrierOpen
 late-stays arena v passed zero p q = absurd (omega arith)
 late-stays arena v passed (suc zero) p q = absurd (omega arith)
 late-stays arena v passed (suc (suc zero)) p q = absurd (omega arith)

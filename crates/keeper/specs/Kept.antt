@@ -16,11 +16,11 @@ use Rattle.model.specs.Kinds.{cells}
 use Rattle.model.specs.Records.{none, start, place, header, plain, flagged, cellsAt, wordsAt, newRecord, laid}
 use Rattle.model.specs.CellMap.{lowestRun}
 use Rattle.model.specs.Rows.{clearMarks}
-use Rattle.model.specs.State.{State, state, Stage, idle, firstBarrier, copying, secondBarrier, thirdBarrier, stageNumber, noMove, withStage, withMove, withBegun, withCommitted, withAborted, rise, entry}
+use Rattle.model.specs.State.{State, state, Stage, idle, firstBarrier, copying, secondBarrier, thirdBarrier, stageOf, inHand, stageNumber, noMove, withStage, withMove, withBegun, withCommitted, withAborted, rise, entry}
 use Rattle.model.specs.Answers.{Outcome, outcome}
 use Rattle.model.specs.ClientSteps.{changed}
 use Rattle.model.specs.KeeperSteps.{taken, freed, withEntry, firstMove, replicaWord}
-use Rattle.model.specs.Refusals.{Refusal, _if_, refuse, badMeter, badKind, isNone, moving, admitRefusals, beginRefusals}
+use Rattle.model.specs.Refusals.{Refusal, _if_, refuse, badMeter, badKind, isNone, admitRefusals, beginRefusals}
 use Rattle.keeper.specs.declared.Moved.{Moved}
 use Rattle.keeper.specs.declared.Kept.{Kept}
 
@@ -44,7 +44,8 @@ openFirst v passed = pick passed (moved (withStage v copying) Nothing false Copy
 -- copying: "writes one word of the replica, in order from 0 .. After the last word marks are cleared and the stage is second barrier."
 abbrev pub oneCopied : Move → ℕ → Change → Bool → Moved
 oneCopied v stage change clear =
-    moved (record { stage = stage; meter = v .meter; from = v .from; target = v .target; copied = rise (v .copied) }) change clear (Copied (rise (v .copied)))
+    moved (record { stage = stage; meter = v .meter; from = v .from; target = v .target; copied = rise (v .copied) }) change clear
+    (Copied (rise (v .copied)))
 
 abbrev pub copiedWord : List ℕ → Move → Stage → Bool → Moved
 copiedWord arena v stage clear = oneCopied v (stageNumber stage) (Put (place (v .target) (v .copied)) (replicaWord arena v)) clear
@@ -106,8 +107,8 @@ abbrev pub advanceKept : Control → List ℕ → Bool → Stage → Kept
 advanceKept c arena passed x = pick (closing passed x) (closeKept c arena x) (onMove c (advanceMove arena (c .mv) passed x))
 
 -- 5, 8 and 10: the lines that RETIRE and BEGIN have in common
-abbrev pub recordRefusals : Control → ℕ → List Refusal
-recordRefusals c meter = 5 if badMeter meter ∷ 8 if moving c ∷ 10 if isNone (entry (c .dir) meter) ∷ []
+abbrev pub recordRefusals : List ℕ → ℕ → ℕ → List Refusal
+recordRefusals dir stage meter = 5 if badMeter meter ∷ 8 if inHand (stageOf stage) ∷ 10 if isNone (entry dir meter) ∷ []
 
 -- RETIRE of the record at a cell; whether some row holds it is told
 abbrev pub retiredKept : Control → List ℕ → ℕ → ℕ → Kept
@@ -115,7 +116,8 @@ retiredKept c arena meter cell = kept (withEntry (freed c cell (cellsAt arena ce
 
 unfoldable pub retireStep : Control → List ℕ → Bool → ℕ → Kept
 retireStep c arena held meter =
-    refuse (recordRefusals c meter) (refusedKept c) (refuse (11 if held ∷ []) (refusedKept c) (retiredKept c arena meter (entry (c .dir) meter)))
+    refuse (recordRefusals (c .dir) (c .mv .stage) meter) (refusedKept c)
+    (refuse (11 if held ∷ []) (refusedKept c) (retiredKept c arena meter (entry (c .dir) meter)))
 
 -- BEGIN of the record at `from`
 abbrev pub begunKept : Control → List ℕ → ℕ → ℕ → ℕ → Kept
@@ -129,8 +131,8 @@ beginStep c arena meter =
     (begunKept c arena meter (entry (c .dir) meter) (lowestRun (c .map) (cellsAt arena (entry (c .dir) meter))))
 
 -- 5 and 7: the lines that come before a search for the run
-abbrev pub newRefusals : Control → ℕ → ℕ → List Refusal
-newRefusals c meter kind = 5 if badMeter meter ∷ 5 if badKind kind ∷ 7 if not (isNone (entry (c .dir) meter)) ∷ []
+abbrev pub newRefusals : List ℕ → ℕ → ℕ → List Refusal
+newRefusals dir meter kind = 5 if badMeter meter ∷ 5 if badKind kind ∷ 7 if not (isNone (entry dir meter)) ∷ []
 
 -- ADMIT: the control record, and the arena with the new record laid
 abbrev pub admittedKept : Control → ℕ → ℕ → ℕ → Kept

@@ -3,11 +3,11 @@
 ghost use mathlib.Core.Path.{_≡_};
 ghost use lib.ListN.{length, set};
 ghost use Rattle.model.specs.CellMap.{putRun};
-ghost use Rattle.model.specs.Records.{plain, flagged};
-ghost use Rattle.model.specs.State.{stageOf, inHand, noMove, rise, entry};
-ghost use Rattle.model.specs.KeeperSteps.{replicaWord, firstMove};
+ghost use Rattle.model.specs.Records.{plain, flagged, cellsAt};
+ghost use Rattle.model.specs.State.{stageOf, inHand, rise, entry};
+ghost use Rattle.model.specs.KeeperSteps.{replicaWord};
 ghost use Rattle.model.proofs.Refusals.{given};
-ghost use Rattle.keeper.specs.Kept.{refusedKept, stays, openFirst, oneCopied, copyMove, advanceMove, commitKept, endMove, callOffKept, settleKept, giveBackKept, closing, closeKept, recordRefusals, newRefusals, retireStep, beginStep, admitStep, admitArena};
+ghost use Rattle.keeper.specs.Kept.{refusedKept, stays, openFirst, oneCopied, copyMove, advanceMove, commitKept, callOffKept, settleKept, giveBackKept, closing, closeKept, recordRefusals, newRefusals, retireStep, beginStep, admitStep, admitArena};
 use model::Answer;
 use model::Change;
 use model::Control;
@@ -204,19 +204,12 @@ fn commit(control: Control) -> Kept
     }
 }
 
-// A block of the moved record's length is freed, and no move is in hand.
-fn end_move(control: Control, arena: &[u32], cell: u16) -> Control
-    ensures { λ r. ⌜ r ≡ endMove control (now (arena .entry)) cell ⌝ }
+// "cells free": those of the block at a cell that is as long as the record at `from`.
+fn free_block(map: [u64; 16], arena: &[u32], from: u16, cell: u16) -> [u64; 16]
+    ensures { λ r. ⌜ r ≡ putRun map cell (cellsAt (now (arena .entry)) from) 0 ⌝ }
 {
-    let mv = control.mv;
-    let lengths = record::lengths_at(arena, wide(mv.from));
-    let old = control.map;
-    let map = cells::free_run(old, wide(cell), lengths.cells);
-    let none = NO_MOVE;
-    let mut next = control;
-    next.map = map;
-    next.mv = none;
-    next
+    let lengths = record::lengths_at(arena, wide(from));
+    cells::free_run(map, wide(cell), lengths.cells)
 }
 
 // "Not equal: the replica's cells are freed, aborted rises, no move in hand"
@@ -224,7 +217,12 @@ fn call_off(control: Control, arena: &[u32]) -> Kept
     ensures { λ r. ⌜ r ≡ callOffKept control (now (arena .entry)) ⌝ }
 {
     let mv = control.mv;
-    let mut next = end_move(control, arena, mv.target);
+    let old = control.map;
+    let map = free_block(old, arena, mv.from, mv.target);
+    let none = NO_MOVE;
+    let mut next = control;
+    next.map = map;
+    next.mv = none;
     next.aborted = one_more(control.aborted);
     Kept {
         control: next,
@@ -252,8 +250,14 @@ fn give_back(control: Control, arena: &[u32]) -> Kept
     ensures { λ r. ⌜ r ≡ giveBackKept control (now (arena .entry)) ⌝ }
 {
     let mv = control.mv;
+    let old = control.map;
+    let map = free_block(old, arena, mv.from, mv.from);
+    let none = NO_MOVE;
+    let mut next = control;
+    next.map = map;
+    next.mv = none;
     Kept {
-        control: end_move(control, arena, mv.from),
+        control: next,
         change: Change::Nothing,
         clear: false,
         answer: Answer::GivenBack,
@@ -301,17 +305,17 @@ fn refused(control: Control, n: u32) -> Kept
 }
 
 // 5, 8 and 10, which RETIRE and BEGIN have in common; 0 where none applies.
-fn record_refusal(control: Control, meter: u32) -> u32
-    ensures { λ r. ⌜ r ≡ given (recordRefusals control meter) ⌝ }
+fn record_refusal(dir: &[u16; 256], stage: u32, meter: u32) -> u32
+    requires { ⌜ length (now dir) ≡ 256 ⌝ }
+    ensures { λ r. ⌜ r ≡ given (recordRefusals (now (dir .entry)) stage meter) ⌝ }
 {
     if 255 < meter {
         return 5;
     }
-    let mv = control.mv;
-    if in_hand(mv.stage) {
+    if in_hand(stage) {
         return 8;
     }
-    if entry_of(&control.dir, meter) == NONE {
+    if entry_of(dir, meter) == NONE {
         return 10;
     }
     0
@@ -321,17 +325,17 @@ fn record_refusal(control: Control, meter: u32) -> u32
 pub fn retire(control: Control, arena: &[u32], held: bool, meter: u32) -> Kept
     ensures { λ r. ⌜ r ≡ retireStep control (now (arena .entry)) held meter ⌝ }
 {
-    let n = record_refusal(control, meter);
+    let mv = control.mv;
+    let n = record_refusal(&control.dir, mv.stage, meter);
     if 0 < n {
         return refused(control, n);
     }
     if held {
         return refused(control, 11);
     }
-    let cell = wide(entry_of(&control.dir, meter));
-    let lengths = record::lengths_at(arena, cell);
+    let cell = entry_of(&control.dir, meter);
     let old = control.map;
-    let map = cells::free_run(old, cell, lengths.cells);
+    let map = free_block(old, arena, cell, cell);
     let mut next = control;
     next.map = map;
     set_entry(&mut next.dir, meter, NONE);
@@ -348,7 +352,8 @@ pub fn retire(control: Control, arena: &[u32], held: bool, meter: u32) -> Kept
 pub fn begin(control: Control, arena: &[u32], meter: u32) -> Kept
     ensures { λ r. ⌜ r ≡ beginStep control (now (arena .entry)) meter ⌝ }
 {
-    let n = record_refusal(control, meter);
+    let mv = control.mv;
+    let n = record_refusal(&control.dir, mv.stage, meter);
     if 0 < n {
         return refused(control, n);
     }
@@ -364,7 +369,7 @@ pub fn begin(control: Control, arena: &[u32], meter: u32) -> Kept
         return refused(control, 15);
     }
     let map = cells::take_run(old, target, lengths.cells);
-    let mv = Move {
+    let first = Move {
         stage: 1,
         meter,
         from,
@@ -373,7 +378,7 @@ pub fn begin(control: Control, arena: &[u32], meter: u32) -> Kept
     };
     let mut next = control;
     next.map = map;
-    next.mv = mv;
+    next.mv = first;
     next.begun = one_more(control.begun);
     Kept {
         control: next,
@@ -387,8 +392,9 @@ pub fn begin(control: Control, arena: &[u32], meter: u32) -> Kept
 }
 
 // 5 and 7 of ADMIT; 0 where neither applies.
-fn admit_refusal(control: Control, meter: u32, kind: u32) -> u32
-    ensures { λ r. ⌜ r ≡ given (newRefusals control meter kind) ⌝ }
+fn admit_refusal(dir: &[u16; 256], meter: u32, kind: u32) -> u32
+    requires { ⌜ length (now dir) ≡ 256 ⌝ }
+    ensures { λ r. ⌜ r ≡ given (newRefusals (now (dir .entry)) meter kind) ⌝ }
 {
     if 255 < meter {
         return 5;
@@ -396,7 +402,7 @@ fn admit_refusal(control: Control, meter: u32, kind: u32) -> u32
     if 3 < kind {
         return 5;
     }
-    if entry_of(&control.dir, meter) != NONE {
+    if entry_of(dir, meter) != NONE {
         return 7;
     }
     0
@@ -407,7 +413,7 @@ pub fn admit(control: Control, arena: &mut [u32], meter: u32, kind: u32) -> Kept
     ensures kept { λ r. ⌜ r ≡ admitStep control meter kind ⌝ }
     ensures laid { λ r. ⌜ now (arena .exit) ≡ admitArena control (now (arena .entry)) meter kind ⌝ }
 {
-    let n = admit_refusal(control, meter, kind);
+    let n = admit_refusal(&control.dir, meter, kind);
     if 0 < n {
         return refused(control, n);
     }

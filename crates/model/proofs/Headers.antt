@@ -1,6 +1,6 @@
 -- A header compared by its flag and its target: "2 × target cell + flag". Assumes nothing.
 use mathlib.Core.Path.{_≡_}
-use mathlib.Core.Bool.{Bool, true, false}
+use mathlib.Core.Bool.{true, false}
 use Prim.Native.Nat.{ℕ, _+_, _*_, _/_, _%_}
 use native.Mathlib.Omega.{arith}
 use lib.Dec.{eqb}
@@ -21,7 +21,8 @@ module _ (h c : ℕ) where
   pub flagged-target : flagOf h ≡ true → eqb (targetOf h) c ≡ eqb h (flagged c)
   flagged-target e =
       let odd : h % 2 ≡ 1 = eqb-true (h % 2) 1 e in
-      says-same (says-as (λ (p : h / 2 ≡ c). omega arith) (λ (p : h ≡ 2 * c + 1). omega arith) (says-eq (targetOf h) c)) (says-eq h (flagged c))
+      says-same (says-as (λ (p : h / 2 ≡ c). omega arith) (λ (p : h ≡ 2 * c + 1). omega arith) (says-eq (targetOf h) c))
+      (says-eq h (flagged c))
 
   -- it is not: the header is another
   pub not-plain : flagOf h ≡ true → eqb h (plain c) ≡ false

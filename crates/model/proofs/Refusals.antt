@@ -9,7 +9,7 @@ use lib.Dec.{T, eqb, ltb, leb}
 use borrow.Author.Tests.{eqb-true, leb-true, ltb-true}
 use Rattle.model.specs.Choice.{pick, _and_, _or_}
 use Rattle.model.specs.Refusals.{Refusal, refuse}
-use Rattle.model.proofs.Choice.{by-test, clash, pick-map}
+use Rattle.model.proofs.Choice.{by-test, clash, and-parts, pick-map}
 
 -- no line applies
 abbrev pub Passed : List Refusal → Type 0
@@ -69,25 +69,17 @@ pub refuse-map : {A B : Type 0} (g : A → B) (l : List Refusal) (f : ℕ → A)
 refuse-map g [] f o = refl
 refuse-map g (r ∷ l) f o = pick-map g (r .1) (f (r .0)) (refuse l f o) ∙ ap (pick (r .1) (g (f (r .0)))) (refuse-map g l f o)
 
--- what a step does whose number was found first: above 0 it is refused by it, at 0 it is accepted
+-- what a step does whose number was found first: above 0 it is refused by it, at 0, which is no line's number, it is accepted
 pub refused-by-given : {A : Type 0} (l : List Refusal) (f : ℕ → A) (o : A) → 0 < given l → refuse l f o ≡ f (given l)
 refused-by-given [] f o h = absurd (omega arith)
-refused-by-given (g ∷ l) f o h = by (g .1) h (refused-by-given l f o)
-  where
-    by : (b : Bool) → 0 < pick b (g .0) (given l) → (0 < given l → refuse l f o ≡ f (given l))
-        → pick b (f (g .0)) (refuse l f o) ≡ f (pick b (g .0) (given l))
-    by true p r = refl
-    by false p r = r p
+refused-by-given ((n, true) ∷ l) f o h = refl
+refused-by-given ((n, false) ∷ l) f o h = refused-by-given l f o h
 
-pub accepted-by-given : {A : Type 0} (l : List Refusal) (f : ℕ → A) (o : A) → T (numbers (ltb 0) l) → given l ≡ 0 → refuse l f o ≡ o
-accepted-by-given [] f o t e = refl
-accepted-by-given (g ∷ l) f o t e = by (ltb 0 (g .0)) refl t (g .1) e (accepted-by-given l f o)
-  where
-    by : (p : Bool) → ltb 0 (g .0) ≡ p → T (p and numbers (ltb 0) l) → (b : Bool) → pick b (g .0) (given l) ≡ 0
-        → (T (numbers (ltb 0) l) → given l ≡ 0 → refuse l f o ≡ o) → pick b (f (g .0)) (refuse l f o) ≡ o
-    by true p u true e r = absurd (omega (arith, ltb-true 0 (g .0) p))
-    by true p u false e r = r u e
-    by false p u b e r = absurd u
+pub accepted-by-given : {A : Type 0} (l : List Refusal) (f : ℕ → A) (o : A) → numbers (ltb 0) l ≡ true → given l ≡ 0
+    → refuse l f o ≡ o
+accepted-by-given [] f o p e = refl
+accepted-by-given ((n, true) ∷ l) f o p e = absurd (omega (arith, ltb-true 0 n (and-parts (ltb 0 n) (numbers (ltb 0) l) p .0)))
+accepted-by-given ((n, false) ∷ l) f o p e = accepted-by-given l f o (and-parts (ltb 0 n) (numbers (ltb 0) l) p .1) e
 
 floor : (l : List Refusal) (n m : ℕ) → T (atLeast n l) → applies m l ≡ true → n ≤ m
 floor [] n m t e = clash false e refl

@@ -4,7 +4,7 @@ use mathlib.Core.Path.{_≡_, sym, ap, _∙_}
 use mathlib.Core.Bool.{true}
 use mathlib.Core.List.{List}
 use mathlib.Core.Logic.{⊎-elim}
-use Prim.Native.Nat.{ℕ, _≤_, _<_}
+use Prim.Native.Nat.{ℕ, _<_}
 use native.Mathlib.Omega.{arith}
 use lib.Dec.{eqb}
 use lib.ListN.{length, List·getD-eq-default}
@@ -25,7 +25,7 @@ present-by-label dir arena c l r ne =
     m = meterOf (label arena c)
 
     low : entry dir m ≡ c → m < length dir
-    low e = ⊎-elim (λ (h : m < length dir). h) (λ (h : length dir ≤ m). absurd (ne (sym e ∙ List·getD-eq-default dir none h))) (order m (length dir))
+    low e = ⊎-elim (λ h. h) (λ h. absurd (ne (sym e ∙ List·getD-eq-default dir none h))) (order m (length dir))
 
     to : entry dir m ≡ c → Somewhere (λ x. x ≡ c) none dir
     to e = record { at = m; low = low e; holds = e }

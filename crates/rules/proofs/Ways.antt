@@ -13,7 +13,8 @@ use Rattle.model.specs.declared.Row.{Row}
 use Rattle.model.specs.Choice.{any}
 use Rattle.model.specs.Records.{none, header, plain, label, cellsAt}
 use Rattle.model.specs.State.{stageOf, entry, idle}
-use Rattle.model.specs.Rules.{isEarly, isLate, replicaRight, earlyRight, lateRight, R2, numbersRight, holdRight, accessRight, phaseRight, swapsRight}
+use Rattle.model.specs.Rules.{isEarly, isLate, replicaRight, earlyRight, lateRight, R2, numbersRight}
+use Rattle.model.specs.Rules.{holdRight, accessRight, phaseRight, swapsRight}
 use Rattle.model.proofs.Choice.{and-yes}
 use Rattle.model.proofs.Says.{says-le, says-same}
 use Rattle.model.proofs.StageNumbers.{early-not-late}
@@ -28,7 +29,8 @@ module _ (dir : List ℕ) (v : Move) (arena : List ℕ) where
 
   -- the block of the move: its entry names a cell, and it is the one that the stage asks for
   module _ (p : entry dir (v .meter) ≡ none → ⊥) where
-    pub early-fits : entry dir (v .meter) ≡ v .from → leb (v .target + cellsAt arena (v .from)) 1024 ≡ false → false ≡ earlyRight dir v arena
+    pub early-fits : entry dir (v .meter) ≡ v .from → leb (v .target + cellsAt arena (v .from)) 1024 ≡ false
+        → false ≡ earlyRight dir v arena
     unfolding earlyRight
     early-fits e f = simp (ne-eqb _ _ p, eq-eqb _ _ e, f)
 

@@ -9,7 +9,9 @@ ghost use Rattle.model.specs.Choice.{all, any};
 ghost use Rattle.model.specs.Records.{none, plain, flagged, label};
 ghost use Rattle.model.specs.Rows.{holdOf, wordOf, busy};
 ghost use Rattle.model.specs.State.{state};
-ghost use Rattle.model.specs.Rules.{recordRight, R1, replicaRight, earlyRight, lateRight, R2, headerRight, R4, R5, detachedRight, holdRight, passedRight, rowRight, R6, R7, flagUp, swapsRight, R8, firstBroken};
+ghost use Rattle.model.specs.Rules.{recordRight, replicaRight, earlyRight, lateRight, headerRight, detachedRight, holdRight};
+ghost use Rattle.model.specs.Rules.{passedRight, rowRight, flagUp, swapsRight};
+ghost use Rattle.model.specs.Rules.{R1, R2, R4, R5, R6, R7, R8, firstBroken};
 ghost use Rattle.model.proofs.CellMap.{IsMap};
 ghost use Rattle.table.specs.Words.{rowsOf};
 ghost use Rattle.rules.specs.Tests.{lent, noNumbers, accessAt, readyAt, phaseAt};
@@ -544,7 +546,9 @@ fn broken<'a>(
     table: &[u32],
 ) -> u32
     requires { ⌜ (length (now dir) ≡ 256) × IsMap (now map) ⌝ }
-    ensures { λ r. ⌜ r ≡ firstBroken (lent (now (dir .entry)) (now (map .entry)) mv begun committed aborted (now (arena .entry)) (now (table .entry))) ⌝ }
+    ensures { λ r.
+        ⌜ r ≡ firstBroken
+        (lent (now (dir .entry)) (now (map .entry)) mv begun committed aborted (now (arena .entry)) (now (table .entry))) ⌝ }
 {
     if !records_right(dir, arena) {
         return 1;

@@ -3,17 +3,16 @@
 use mathlib.Core.Path.{_≡_, refl, sym, ap, _∙_}
 use mathlib.Core.Bool.{Bool, true, false, not}
 use mathlib.Core.Logic.{⊎-elim}
-use mathlib.Core.List.{List, map}
+use mathlib.Core.List.{List}
 use Prim.Native.Nat.{ℕ, zero, suc, _≤_, _<_}
 use native.Mathlib.Omega.{arith}
-use lib.Dec.{eqb}
-use lib.ListN.{length, getD, set, length-set, length-map}
+use lib.ListN.{length, getD, length-set, length-map}
 use borrow.Author.Tests.{lt-ltb, le-ltb, ne-eqb}
 use Rattle.model.specs.declared.Row.{Row}
 use Rattle.model.specs.declared.Answer.the-variants.{Refused}
 use Rattle.model.specs.declared.Stepped.{Stepped}
 use Rattle.model.specs.Choice.{pick, any}
-use Rattle.model.specs.Rows.{freshRow, cleared, clearMarks, allPassed}
+use Rattle.model.specs.Rows.{freshRow, cleared, allPassed}
 use Rattle.model.specs.State.{State, stageOf, entry}
 use Rattle.model.specs.Answers.{Outcome}
 use Rattle.model.specs.ClientSteps.{changed}
@@ -22,14 +21,14 @@ use Rattle.model.specs.Refusals.{holdsCell}
 use Rattle.model.specs.Steps.{Step, step, Name, UNKNOWN, clientCodes, seated, refused, act}
 use Rattle.model.proofs.Choice.{order}
 use Rattle.clients.specs.Turns.{clientTurn}
-use Rattle.clients.proofs.Acts.{act-client, turnOf}
+use Rattle.clients.proofs.Acts.{act-client}
 use Rattle.keeper.specs.declared.Kept.{Kept}
 use Rattle.keeper.specs.Kept.{onMove, closing, closeKept, advanceMove, advanceKept, retireStep, beginStep, marked, placed}
 use Rattle.keeper.proofs.Acts.{admit-acts, retire-acts, begin-acts, advance-acts}
-use Rattle.table.specs.Words.{tableWords, rowRead, rowsRead}
+use Rattle.table.specs.Words.{tableWords, rowsRead}
 use Rattle.table.proofs.FourHolds.{FourHolds, four-after-set, four-after-clear}
 use Rattle.table.proofs.Rows.{row-read, rows-read, clear-marks}
-use Rattle.turns.specs.Turns.{Left, clientLeft, stored, Lent, lent, Turn, turn, clearIf, keptTurn, byMove, turnOn}
+use Rattle.turns.specs.Turns.{Left, clientLeft, Lent, lent, Turn, turn, clearIf, keptTurn, byMove, turnOn}
 use Rattle.turns.proofs.Keeps.{client-stored, client-four}
 
 -- a state as it is lent, and an outcome

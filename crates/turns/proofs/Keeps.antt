@@ -1,9 +1,9 @@
 -- What a client's turn leaves alone in its row: so storing what a step may change is storing the row. Assumes nothing.
 use mathlib.Core.Path.{_≡_, refl, sym, ap, ap₂, _∙_}
-use mathlib.Core.List.{List, map}
+use mathlib.Core.List.{List}
 use Prim.Native.Nat.{ℕ}
 use lib.Dec.{eqb}
-use lib.ListN.{length, getD, set, length-set, length-map}
+use lib.ListN.{getD, set, length-set, length-map}
 use lib.Seq.{set-getD}
 use Rattle.model.specs.declared.Access.{Access}
 use Rattle.model.specs.declared.Access.the-variants.{Read, Write}
@@ -16,8 +16,8 @@ use Rattle.model.specs.declared.Row.{Row}
 use Rattle.model.specs.declared.Stepped.{Stepped}
 use Rattle.model.specs.Records.{none, header, flagged, flagOf}
 use Rattle.model.specs.Rows.{withPhase, withSwaps, freshRow, hold, holdOf}
-use Rattle.model.specs.ClientSteps.{attach, detach, openHold, dropHold, loadHeader, atHeader, go, swap, rest, forwarded, changed}
-use Rattle.model.specs.Refusals.{Refusal, attachRefusals, restRefusals, openRefusals, dropRefusals, accessRefusals, goRefusals}
+use Rattle.model.specs.ClientSteps.{attach, detach, openHold, dropHold, atHeader, go, swap, rest, forwarded, changed}
+use Rattle.model.specs.Refusals.{Refusal, attachRefusals, restRefusals, openRefusals, dropRefusals, goRefusals}
 use Rattle.model.specs.Steps.{Name, ADMIT, RETIRE, BEGIN, ADVANCE, ATTACH, DETACH, OPEN, DROP, READ, WRITE, GO, REST, UNKNOWN, NOBODY}
 use Rattle.model.proofs.Choice.{by-test}
 use Rattle.model.proofs.Refusals.{unless-refused}
@@ -51,7 +51,8 @@ module _ (a : List ℕ) (r : Row) where
 
   access-phase : (x : Access) → OnlyPhase r (accessTurn a r x)
   access-phase x =
-      turn-keeps (OnlyPhase r) _ r _ (λ n. record { row = refl; change = refl }) (header-phase x (hold r (holdOf x)) (header a (hold r (holdOf x))))
+      turn-keeps (OnlyPhase r) _ r _ (λ n. record { row = refl; change = refl })
+      (header-phase x (hold r (holdOf x)) (header a (hold r (holdOf x))))
 
   go-phase : (p : Phase) → OnlySwap r (go a r p)
   unfolding swap
@@ -74,8 +75,8 @@ module _ (a : List ℕ) (table : List Row) (i : ℕ) where
   abbrev whole : Stepped → Left
   whole o = left (changed a (o .change)) (tableWords (set table i (o .row))) (o .answer)
 
-  row-stored : (n : Name) (o : Stepped) → OnlyRow o → stored ATTACH a (tableWords table) i o ≡ whole o
-  row-stored n o e = left-is (o .answer) (sym (ap (changed a) e)) (put-row table i (o .row))
+  row-stored : (o : Stepped) → OnlyRow o → stored ATTACH a (tableWords table) i o ≡ whole o
+  row-stored o e = left-is (o .answer) (sym (ap (changed a) e)) (put-row table i (o .row))
 
   phase-stored : (o : Stepped) → OnlyPhase own o → stored READ a (tableWords table) i o ≡ whole o
   phase-stored o h =
@@ -90,12 +91,13 @@ module _ (a : List ℕ) (table : List Row) (i : ℕ) where
   none-stored : left a (tableWords table) (Refused 4) ≡ whole (refusedTurn own 4)
   none-stored = left-is (Refused 4) refl (ap tableWords (sym (set-getD table i freshRow)))
 
-  pub client-stored : (n : Name) (e x y v : ℕ) → stored n a (tableWords table) i (clientTurn n a own e x y v) ≡ whole (clientTurn n a own e x y v)
-  client-stored ATTACH e x y v = row-stored ATTACH _ (turn-keeps OnlyRow (attachRefusals own) own (attach own) (λ n. refl) refl)
-  client-stored DETACH e x y v = row-stored DETACH _ (turn-keeps OnlyRow (restRefusals own) own (detach own) (λ n. refl) refl)
-  client-stored OPEN e x y v = row-stored OPEN _ (turn-keeps OnlyRow (openRefusals own e x y) own (openHold own y e) (λ n. refl) refl)
-  client-stored DROP e x y v = row-stored DROP _ (turn-keeps OnlyRow (dropRefusals own x) own (dropHold own x) (λ n. refl) refl)
-  client-stored REST e x y v = row-stored REST _ (turn-keeps OnlyRow (restRefusals own) own (rest a own) (λ n. refl) refl)
+  pub client-stored : (n : Name) (e x y v : ℕ)
+      → stored n a (tableWords table) i (clientTurn n a own e x y v) ≡ whole (clientTurn n a own e x y v)
+  client-stored ATTACH e x y v = row-stored _ (turn-keeps OnlyRow (attachRefusals own) own (attach own) (λ n. refl) refl)
+  client-stored DETACH e x y v = row-stored _ (turn-keeps OnlyRow (restRefusals own) own (detach own) (λ n. refl) refl)
+  client-stored OPEN e x y v = row-stored _ (turn-keeps OnlyRow (openRefusals own e x y) own (openHold own y e) (λ n. refl) refl)
+  client-stored DROP e x y v = row-stored _ (turn-keeps OnlyRow (dropRefusals own x) own (dropHold own x) (λ n. refl) refl)
+  client-stored REST e x y v = row-stored _ (turn-keeps OnlyRow (restRefusals own) own (rest a own) (λ n. refl) refl)
   client-stored READ e x y v = phase-stored _ (access-phase a own (Read x y))
   client-stored WRITE e x y v = phase-stored _ (access-phase a own (Write x y v))
   client-stored GO e x y v = swap-stored _ (go-swap a own)

@@ -1,5 +1,5 @@
 -- The loop over the steps: one turn more, or none where no step is left. Assumes nothing.
-use mathlib.Core.Path.{_≡_, refl, sym, _∙_}
+use mathlib.Core.Path.{_≡_, refl, _∙_}
 use mathlib.Core.Bool.{Bool, true, false}
 use mathlib.Core.List.{List}
 use Prim.Native.Nat.{ℕ, zero, suc, _+_, _-_, _*_, _≤_, _<_}
@@ -41,12 +41,13 @@ pub turns-end : (ws : List ℕ) (i n : ℕ) (g : Going) → length ws ≤ 5 * i 
 turns-end ws i n g h = turns-stop ws i n g (no-step (length ws) (length (g .slots)) i h)
 
 pub turns-next : (ws : List ℕ) (i n : ℕ) (g : Going) → hasStep (length ws) (length (g .slots)) i ≡ true
-    → turnsFrom ws i (suc n) g ≡ turnsFrom ws (suc i) n (after ws i g (turnOn (g .lent) (stepAt ws i)))
+    → turnsFrom ws i (suc n) g ≡ turnsFrom ws (suc i) n (after i g (turnOn (g .lent) (stepAt ws i)))
 unfolding turnsFrom
 turns-next ws i n g e = rw e
 
 -- what the loop keeps: the whole run is the turns that are left, on what is lent now
-pub turns-more : (ws : List ℕ) (i : ℕ) (whole : Going) (c : Control) (a t s : List ℕ) (x : Answer) {o : Turn} {d : Control} {b u v : List ℕ} {y : Answer}
+pub turns-more : (ws : List ℕ) (i : ℕ) (whole : Going) (c : Control) (a t s : List ℕ) (x : Answer)
+    {o : Turn} {d : Control} {b u v : List ℕ} {y : Answer}
     → whole ≡ turnsFrom ws i (4096 - i) (going (lent c a t) s x) → hasStep (length ws) (length s) i ≡ true
     → turnOn (lent c a t) (stepAt ws i) ≡ o
     → d ≡ o .next .control → b ≡ o .next .arena → u ≡ o .next .table → y ≡ o .answer → v ≡ putTold s i (toldAs y)
@@ -54,6 +55,6 @@ pub turns-more : (ws : List ℕ) (i : ℕ) (whole : Going) (c : Control) (a t s 
 turns-more ws i whole c a t s x w h e ec ea et ey ev =
     let k : 4096 - i ≡ suc (4096 - (i + 1)) = omega (arith, step-below (length ws) (length s) i h) in
     let g : Going = going (lent c a t) s x in
-    let n : turnsFrom ws i (4096 - i) g ≡ turnsFrom ws (suc i) (4096 - (i + 1)) (after ws i g (turnOn (lent c a t) (stepAt ws i))) =
+    let n : turnsFrom ws i (4096 - i) g ≡ turnsFrom ws (suc i) (4096 - (i + 1)) (after i g (turnOn (lent c a t) (stepAt ws i))) =
     rw k (turns-next ws i (4096 - (i + 1)) g h) in
     w ∙ (n ∙ rw (e, ev, ey, ec, ea, et, add-one i))

@@ -1,6 +1,6 @@
 -- Turns on the words of rows are the model's steps one by one, with the answers laid in their slots. Assumes nothing.
 use mathlib.Core.Path.{_≡_, refl, sym, ap, _∙_}
-use mathlib.Core.List.{List, [], _∷_}
+use mathlib.Core.List.{List, _∷_}
 use Prim.Native.Nat.{ℕ, zero, suc, _+_, _*_, _≤_}
 use native.Mathlib.Numerals.{add-one}
 use native.Mathlib.Omega.{arith}
@@ -67,4 +67,4 @@ run-one ws slots x s R p q =
     let there = step-there (length ws) (length slots) 0 (omega arith) (omega arith) (omega arith) in
     turns-next ws 0 4095 (going (lentOf s) slots x) there
     ∙ turns-end ws 1 4095 _ (omega arith)
-    ∙ ap (after ws 0 (going (lentOf s) slots x)) (acts s (t .who) (t .code) (t .a) (t .b) (t .v) R .turn)
+    ∙ ap (after 0 (going (lentOf s) slots x)) (acts s (t .who) (t .code) (t .a) (t .b) (t .v) R .turn)

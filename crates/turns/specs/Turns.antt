@@ -3,7 +3,7 @@
 use mathlib.Core.Bool.{Bool, true, false, not}
 use mathlib.Core.List.{List}
 use mathlib.Core.Path.{_≡_}
-use Prim.Native.Nat.{ℕ, zero, suc, pred, _+_, _*_}
+use Prim.Native.Nat.{ℕ, zero, suc, _+_, _*_}
 use lib.Dec.{eqb, ltb}
 use lib.ListN.{length, getD, set}
 use Rattle.model.specs.declared.Control.{Control}
@@ -151,14 +151,14 @@ putTold slots i x = set (set slots (2 * i) (x .number)) (2 * i + 1) (x .value)
 unfoldable pub hasStep : ℕ → ℕ → ℕ → Bool
 hasStep words slots i = ltb i 4096 and ltb (5 * i + 4) words and ltb (2 * i + 1) slots
 
-abbrev pub after : List ℕ → ℕ → Going → Turn → Going
-after ws i g o = going (o .next) (putTold (g .slots) i (toldAs (o .answer))) (o .answer)
+abbrev pub after : ℕ → Going → Turn → Going
+after i g o = going (o .next) (putTold (g .slots) i (toldAs (o .answer))) (o .answer)
 
 -- the steps from i on, as many as there are of the next n
 unfoldable pub turnsFrom : List ℕ → ℕ → ℕ → Going → Going
 turnsFrom ws i zero g = g
 turnsFrom ws i (suc n) g =
-    pick (hasStep (length ws) (length (g .slots)) i) (turnsFrom ws (suc i) n (after ws i g (turnOn (g .lent) (stepAt ws i)))) g
+    pick (hasStep (length ws) (length (g .slots)) i) (turnsFrom ws (suc i) n (after i g (turnOn (g .lent) (stepAt ws i)))) g
 
 -- What the functions do
 pub record LeftDoes (a t : List ℕ) (r : Answer) (o : Left) : Type 0 where

@@ -256,15 +256,15 @@ fn advance(arena: &mut [u32], table: &mut [u32], mv: Move, passed: bool) -> Movi
 }
 
 // What a keeper's step on the whole control record leaves, stored.
-fn put_kept(arena: &mut [u32], table: &mut [u32], o: keeper::Kept) -> Turned
+fn put_kept(arena: &mut [u32], table: &mut [u32], kept: keeper::Kept) -> Turned
     ensures { λ r. ⌜ TurnDoes (now (arena .exit)) (now (table .exit)) r
-        (keptTurn (lent (o .control) (now (arena .entry)) (now (table .entry))) o) ⌝ }
+        (keptTurn (lent (kept .control) (now (arena .entry)) (now (table .entry))) kept) ⌝ }
 {
-    let control = o.control;
-    let change = o.change;
-    let answer = o.answer;
+    let control = kept.control;
+    let change = kept.change;
+    let answer = kept.answer;
     record::apply(arena, change);
-    clear_if(table, o.clear);
+    clear_if(table, kept.clear);
     Turned { control, answer }
 }
 

@@ -1,2 +1,3 @@
 pub mod Bytes
 pub mod Laid
+pub mod RoundTrip

@@ -1,7 +1,6 @@
 -- `archive::audit` meets its contract: refused by its size, or the first broken rule (proofs/Calls). Assumes nothing.
 use denote.Ref.{now}
 use borrow.Author.Needs.{needs}
-use mathlib.Core.Path.{sym, _∙_}
 use Rattle.model.proofs.Choice.{said-yes, said-no}
 use Rattle.archive.proofs.Calls.{audit-stays, audit-goes}
 use Rattle.archive.proofs.audit.Statement.{statement}

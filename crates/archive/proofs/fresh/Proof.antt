@@ -1,7 +1,6 @@
 -- `archive::fresh` meets its contract: refused by its size, or all made anew (proofs/Calls). Assumes nothing.
 use denote.Ref.{now}
 use borrow.Author.Needs.{needs}
-use mathlib.Core.Path.{sym, _∙_}
 use Rattle.model.proofs.Choice.{said-yes, said-no}
 use Rattle.archive.proofs.Calls.{fresh-stays, fresh-goes}
 use Rattle.archive.proofs.fresh.Statement.{statement}

@@ -23,7 +23,8 @@ first-broken-requires c κs = search needs
 returns-2 : tie.Need-returns-2
 returns-2 c = let b = c .before .before in
     let s = b .before .before .before .before .args in
-    let broken : firstBroken (meant (s .control) (now (s .arena)) (now (s .table))) ≢ 0 = rw (c .before .first-broken .ensures) at (c .if2 .taken) in
+    let broken : firstBroken (meant (s .control) (now (s .arena)) (now (s .table))) ≢ 0 =
+    rw (c .before .first-broken .ensures) at (c .if2 .taken) in
     sym
     (unsound-refused (s .control) (now (s .arena)) (now (s .table)) (said-yes (b .before .right-sizes .ensures) (b .if1 .left)) broken)
 

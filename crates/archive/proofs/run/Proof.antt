@@ -2,6 +2,7 @@
 use denote.Ref.{now}
 use borrow.Author.Needs.{needs}
 use mathlib.Core.Path.{_≡_, sym, _∙_}
+use Prim.Native.Nat.{_<_}
 use native.Mathlib.Omega.{arith}
 use Rattle.model.proofs.Choice.{said-yes, said-no}
 use Rattle.archive.proofs.Calls.{run-wrong-sizes, run-stays, run-refused-by, run-goes}
@@ -32,10 +33,12 @@ same-length-4 : tie.Need-same-length-4
 same-length-4 c = search needs
 
 returns-2 : tie.Need-returns-2
-returns-2 c = let b = c .before .before .before .before in
+returns-2 c =
+    let some : 0 < c .before .refusal .result = omega (arith, c .if2 .taken) in
+    let b = c .before .before .before .before in
     let s = b .before .before .before .before .before .before .before .args in
     run-refused-by (s .control) (now (s .arena)) (now (s .table)) _ (now (s .steps)) (now (s .answers)) (c .before .refusal .ensures)
-    (said-yes (b .before .run-sizes .ensures) (b .if1 .left)) (c .if2 .taken)
+    (said-yes (b .before .run-sizes .ensures) (b .if1 .left)) some
 
 turns-requires : tie.Need-turns-requires
 turns-requires c κs = search needs
@@ -50,12 +53,13 @@ same-length-7 : tie.Need-same-length-7
 same-length-7 c = search needs
 
 returns-3 : tie.Need-returns-3
-returns-3 c = let r = c .before .before .before .before .before .before .before .before .before .before .before .before in
+returns-3 c = let k = c .before .before .before .before .before .before .before in
+    let r = k .before .before .before .before .before in
     let b = r .before .before .before in
     let s = b .before .before .before .before .before .before .before .args in
-    let z : r .refusal .result ≡ 0 = omega (arith, c .before .before .before .before .before .before .before .before .before .before .before .if2 .left) in
+    let z : r .refusal .result ≡ 0 = omega (arith, k .before .before .before .before .if2 .left) in
     run-goes (s .control) (now (s .arena)) (now (s .table)) (now (s .steps)) (now (s .answers))
-    (said-yes (b .before .run-sizes .ensures) (b .if1 .left)) (sym (r .refusal .ensures) ∙ z) (c .before .before .before .before .before .before .before .turns .ensures)
+    (said-yes (b .before .run-sizes .ensures) (b .if1 .left)) (sym (r .refusal .ensures) ∙ z) (k .turns .ensures)
 
 pub run-spec : {M : Type 1} → statement M
 run-spec =

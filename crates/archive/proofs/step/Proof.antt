@@ -39,11 +39,12 @@ same-length-4 : tie.Need-same-length-4
 same-length-4 c = search needs
 
 returns-2 : tie.Need-returns-2
-returns-2 c = let b = c .before .before .before .before .before .before .before .before .before .before .before .before in
+returns-2 c = let k = c .before .before .before .before .before .before in
+    let b = k .before .before .before .before .before .before in
     let s = b .before .before .before .before .before .args in
-    let z : b .refusal .result ≡ 0 = omega (arith, c .before .before .before .before .before .before .before .before .before .before .before .if1 .left) in
+    let z : b .refusal .result ≡ 0 = omega (arith, k .before .before .before .before .before .if1 .left) in
     step-goes (s .control) (now (s .arena)) (now (s .table)) (0 ∷ 0 ∷ []) (s .who) (s .code) (s .a) (s .b) (s .v)
-    (sym (b .refusal .ensures) ∙ z) refl (c .before .before .before .before .before .before .turns .ensures)
+    (sym (b .refusal .ensures) ∙ z) refl (k .turns .ensures)
 
 pub step-spec : {M : Type 1} → statement M
 step-spec =

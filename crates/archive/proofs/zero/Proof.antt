@@ -12,10 +12,12 @@ use Rattle.model.specs.Records.{laid}
 use Rattle.archive.proofs.zero.Statement.{statement}
 use Rattle.archive.proofs.zero.Tie as tie
 
-one-more : (entry : List ℕ) (i : ℕ) {arena : List ℕ} → arena ≡ laid entry 0 (replicate i 0) → set arena i 0 ≡ laid entry 0 (replicate (i + 1) 0)
+one-more : (entry : List ℕ) (i : ℕ) {arena : List ℕ} → arena ≡ laid entry 0 (replicate i 0)
+    → set arena i 0 ≡ laid entry 0 (replicate (i + 1) 0)
 one-more entry i e = rw e (sym (rw zero-add at (laid-run-more entry 0 i 0)))
 
-all-zero : (entry : List ℕ) (i : ℕ) {arena : List ℕ} → arena ≡ laid entry 0 (replicate i 0) → i ≡ length entry → arena ≡ replicate (length entry) 0
+all-zero : (entry : List ℕ) (i : ℕ) {arena : List ℕ} → arena ≡ laid entry 0 (replicate i 0)
+    → i ≡ length entry → arena ≡ replicate (length entry) 0
 all-zero entry i e p = e ∙ laid-all entry (replicate i 0) (sym p ∙ sym (length-replicate i 0)) ∙ ap (λ (n : ℕ). replicate n 0) p
 
 abbrev Inv-loop : tie.InvT-loop

@@ -28,7 +28,8 @@ returns : tie.Need-returns Inv-loop μ-loop
 returns c =
     let b = c .before .before .before .before .before in
     let args = b .before .before .args in
-    sym (turn-stops _ (now (args .map)) (args .mv) _ (b .loop .seen) (b .loop .m) (b .before .before .pre .0) (b .loop .inv .0) (omega arith) (c .before .before .entry-of .ensures) (c .before .lay-record .ensures .0) (not-true _ (c .if1 .taken)))
+    sym (turn-stops _ (now (args .map)) (args .mv) _ (b .loop .seen) (b .loop .m) (b .before .before .pre .0) (b .loop .inv .0)
+    (omega arith) (c .before .before .entry-of .ensures) (c .before .lay-record .ensures .0) (not-true _ (c .if1 .taken)))
 
 add-m : tie.Need-add-m Inv-loop μ-loop
 add-m c = search needs
@@ -39,8 +40,12 @@ loop-less c = search needs
 loop-again : tie.Need-loop-again Inv-loop μ-loop
 loop-again c =
     let b = c .before .before .before .before .before in
-    let args = b .before .before .args in
-    (turn-on _ (now (args .map)) (args .mv) _ (b .loop .seen) (b .loop .m) (b .before .before .pre .0) (b .loop .inv .0) (omega arith) (c .before .before .entry-of .ensures) (c .before .lay-record .ensures .0) (c .before .lay-record .ensures .1) (not-false _ (c .if1 .left)), omega arith)
+    let args = b .before .before .args in (
+      turn-on _ (now (args .map)) (args .mv) _ (b .loop .seen) (b .loop .m) (b .before .before .pre .0) (b .loop .inv .0)
+          (omega arith) (c .before .before .entry-of .ensures) (c .before .lay-record .ensures .0) (c .before .lay-record .ensures .1)
+          (not-false _ (c .if1 .left)),
+      omega arith,
+    )
 
 other-block-requires : tie.Need-other-block-requires Inv-loop μ-loop
 other-block-requires c κs = search needs
@@ -56,7 +61,8 @@ returns-2 c =
     let b = c .before .before .before in
     let loop = b .before .before .loop in
     let b2 = b .before .before .before .before in
-    sym (end-stops _ (now (b2 .args .map)) (b2 .args .mv) _ (loop .seen) (b2 .pre .0) (loop .inv .0) (omega arith) (b .other-block .ensures) (c .before .lay-block .ensures .0) (not-true _ (c .if2 .taken)))
+    sym (end-stops _ (now (b2 .args .map)) (b2 .args .mv) _ (loop .seen) (b2 .pre .0) (loop .inv .0) (omega arith)
+    (b .other-block .ensures) (c .before .lay-block .ensures .0) (not-true _ (c .if2 .taken)))
 
 same-words-requires : tie.Need-same-words-requires Inv-loop μ-loop
 same-words-requires c κs = search needs
@@ -67,7 +73,9 @@ returns-3 c =
     let b2 = b .before .before .before .before in
     let args = b2 .before .before .args in
     let pre = b2 .before .before .pre in
-    end-same _ (now (args .map)) (args .mv) _ (b2 .loop .seen) (pre .0) (b2 .loop .inv .0) (omega arith) (b .before .before .other-block .ensures) (b .lay-block .ensures .0) (pre .1) (b .lay-block .ensures .1) (not-false _ (c .before .before .if2 .left)) (c .same-words .ensures)
+    end-same _ (now (args .map)) (args .mv) _ (b2 .loop .seen) (pre .0) (b2 .loop .inv .0) (omega arith)
+    (b .before .before .other-block .ensures) (b .lay-block .ensures .0) (pre .1) (b .lay-block .ensures .1)
+    (not-false _ (c .before .before .if2 .left)) (c .same-words .ensures)
 
 pub cells-right-spec : {M : Type 1} → statement M
 cells-right-spec =

@@ -11,7 +11,8 @@ use Rattle.blocks.proofs.lay_block.Tie as tie
 
 returns : tie.Need-returns
 returns c =
-    let f = far-block (now (c .before .args .seen)) (c .before .args .c) (c .before .args .n) (c .before .pre .1) (omega arith) in (sym (f .1), sym (f .0))
+    let f = far-block (now (c .before .args .seen)) (c .before .args .c) (c .before .args .n) (c .before .pre .1) (omega arith) in
+    (sym (f .1), sym (f .0))
 
 low-mask-requires : tie.Need-low-mask-requires
 low-mask-requires c κs = search needs
@@ -27,24 +28,35 @@ high-mask-requires c κs = search needs
 
 lay-word-requires-2 : tie.Need-lay-word-requires-2
 lay-word-requires-2 c κs =
-    ap length (c .before .before .lay-word .ensures .1) ∙ word-length _ _ _ ∙ c .before .before .before .before .before .before .pre .1
+    ap length (c .before .before .lay-word .ensures .1) ∙ word-length _ _ _
+    ∙ c .before .before .before .before .before .before .pre .1
 
 returns-2 : tie.Need-returns-2
 returns-2 c =
     let b = c .before .before .before .before in
-    let s = b .before .before .before .before .args in let lo = b .before .low-mask .ensures in let hi = c .before .before .high-mask .ensures in let one = b .lay-word in let two = c .before .lay-word2 in (
-      sym (ap (λ t. t and two .result) (c .if2 .taken))
-          ∙ block-free (now (s .seen)) (s .c) (s .n) lo hi (one .ensures .1) (one .ensures .0) (two .ensures .0),
-      block-laid (now (s .seen)) (s .c) (s .n) lo hi (one .ensures .1) (two .ensures .1),
+    let s = b .before .before .before .before .args in
+    let two = c .before .lay-word2 in
+    let m = now (s .seen) in
+    let lo = b .before .low-mask .ensures in
+    let hi = c .before .before .high-mask .ensures in
+    let laid = b .lay-word .ensures .1 in (
+      sym (ap (λ t. t and two .result) (c .if2 .taken)) ∙ block-free m (s .c) (s .n) lo hi laid (b .lay-word .ensures .0)
+          (two .ensures .0),
+      block-laid m (s .c) (s .n) lo hi laid (two .ensures .1),
     )
 
 returns-3 : tie.Need-returns-3
 returns-3 c =
     let b = c .before .before .before .before in
-    let s = b .before .before .before .before .args in let lo = b .before .low-mask .ensures in let hi = c .before .before .high-mask .ensures in let one = b .lay-word in let two = c .before .lay-word2 in (
+    let s = b .before .before .before .before .args in
+    let two = c .before .lay-word2 in
+    let m = now (s .seen) in
+    let lo = b .before .low-mask .ensures in
+    let hi = c .before .before .high-mask .ensures in
+    let laid = b .lay-word .ensures .1 in (
       c .if2 .left ∙ sym (ap (λ t. t and two .result) (c .if2 .left))
-          ∙ block-free (now (s .seen)) (s .c) (s .n) lo hi (one .ensures .1) (one .ensures .0) (two .ensures .0),
-      block-laid (now (s .seen)) (s .c) (s .n) lo hi (one .ensures .1) (two .ensures .1),
+          ∙ block-free m (s .c) (s .n) lo hi laid (b .lay-word .ensures .0) (two .ensures .0),
+      block-laid m (s .c) (s .n) lo hi laid (two .ensures .1),
     )
 
 pub lay-block-spec : {M : Type 1} → statement M

@@ -10,10 +10,8 @@ use Rattle.blocks.proofs.lay_word.Tie as tie
 
 returns : tie.Need-returns
 returns c =
-    let w = word-out (now (c .before .args .seen)) (c .before .args .w) (c .before .args .mask) (omega arith) in (
-      sym (w .1),
-      sym (w .0),
-    )
+    let w = word-out (now (c .before .args .seen)) (c .before .args .w) (c .before .args .mask) (omega arith) in
+    (sym (w .1), sym (w .0))
 
 mul-old : tie.Need-mul-old
 mul-old c = search needs

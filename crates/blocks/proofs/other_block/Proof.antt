@@ -25,7 +25,8 @@ returns c =
     let b = c .before .before .before in
     let b2 = b .before .before .before in
     ap (block (b2 .args .mv .target)) (cells-read (now (b2 .args .arena)) (b2 .args .mv .from) (b .lengths-at .ensures))
-    ∙ other-early (b2 .args .mv) (now (b2 .args .arena)) (stageOf (b2 .args .mv .stage)) (sym (c .before .before .is-early .ensures) ∙ c .before .if1 .taken)
+    ∙ other-early (b2 .args .mv) (now (b2 .args .arena)) (stageOf (b2 .args .mv .stage))
+    (sym (c .before .before .is-early .ensures) ∙ c .before .if1 .taken)
 
 is-late-requires : tie.Need-is-late-requires
 is-late-requires c κs = search needs
@@ -35,15 +36,15 @@ returns-2 c =
     let b = c .before .before .before in
     let b2 = b .before .before .before .before in
     ap (block (b2 .args .mv .from)) (cells-read (now (b2 .args .arena)) (b2 .args .mv .from) (b .before .lengths-at .ensures))
-    ∙ other-late (b2 .args .mv) (now (b2 .args .arena)) (stageOf (b2 .args .mv .stage)) (sym (b .is-early .ensures)
-    ∙ c .before .before .if1 .left) (sym (c .before .is-late .ensures) ∙ c .if2 .taken)
+    ∙ other-late (b2 .args .mv) (now (b2 .args .arena)) (stageOf (b2 .args .mv .stage))
+    (sym (b .is-early .ensures) ∙ c .before .before .if1 .left) (sym (c .before .is-late .ensures) ∙ c .if2 .taken)
 
 returns-3 : tie.Need-returns-3
 returns-3 c =
     let b = c .before .before .before in
     let b2 = b .before .before .before .before in
-    other-idle (b2 .args .mv) (now (b2 .args .arena)) (stageOf (b2 .args .mv .stage)) (sym (b .is-early .ensures)
-    ∙ c .before .before .if1 .left) (sym (c .before .is-late .ensures) ∙ c .if2 .left)
+    other-idle (b2 .args .mv) (now (b2 .args .arena)) (stageOf (b2 .args .mv .stage))
+    (sym (b .is-early .ensures) ∙ c .before .before .if1 .left) (sym (c .before .is-late .ensures) ∙ c .if2 .left)
 
 pub other-block-spec : {M : Type 1} → statement M
 other-block-spec =

@@ -4,7 +4,7 @@ use mathlib.Core.Path.{sym, ap}
 use mathlib.Core.List.{map}
 use denote.Ref.{now}
 use Rattle.model.specs.ClientSteps.{forwarded}
-use Rattle.clients.proofs.Holds.{four-holds}
+use Rattle.model.proofs.Holds.{four-holds}
 use Rattle.clients.proofs.forward_all.Statement.{statement}
 use Rattle.clients.proofs.forward_all.Tie as tie
 

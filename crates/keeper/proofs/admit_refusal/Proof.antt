@@ -1,10 +1,8 @@
+-- `admit_refusal`: each return is the first line of ADMIT's table that applies, the lines before it having been tested. Assumes nothing.
 use borrow.Author.Tests.{lt-ltb, le-ltb, eq-eqb, ne-eqb}
 use borrow.Author.Needs.{needs}
 use Rattle.keeper.proofs.admit_refusal.Statement.{statement}
 use Rattle.keeper.proofs.admit_refusal.Tie as tie
-use Rattle.keeper.proofs.admit_refusal.Reads as reads
-use Rattle.keeper.proofs.admit_refusal.Lts as lts
-use Rattle.keeper.proofs.entry_of.Reads as entry-of-reads
 
 returns : tie.Need-returns
 returns c = simp (lt-ltb _ _ (c .if1 .taken))
@@ -16,10 +14,24 @@ entry-of-requires : tie.Need-entry-of-requires
 entry-of-requires c κs = search needs
 
 returns-3 : tie.Need-returns-3
-returns-3 c = simp (le-ltb _ _ (c .before .before .before .before .before .if1 .left), le-ltb _ _ (c .before .before .before .before .if2 .left), ← c .before .entry-of .ensures, ne-eqb _ _ (c .if3 .taken))
+returns-3 c =
+    simp (
+      le-ltb _ _ (c .before .before .before .if1 .left),
+      le-ltb _ _
+          (c .before .before .if2 .left),
+      ← c .before .entry-of .ensures,
+      ne-eqb _ _ (c .if3 .taken),
+    )
 
 returns-4 : tie.Need-returns-4
-returns-4 c = simp (le-ltb _ _ (c .before .before .before .before .before .if1 .left), le-ltb _ _ (c .before .before .before .before .if2 .left), ← c .before .entry-of .ensures, eq-eqb _ _ (c .if3 .left))
+returns-4 c =
+    simp (
+      le-ltb _ _ (c .before .before .before .if1 .left),
+      le-ltb _ _
+          (c .before .before .if2 .left),
+      ← c .before .entry-of .ensures,
+      eq-eqb _ _ (c .if3 .left),
+    )
 
 pub admit-refusal-spec : {M : Type 1} → statement M
 admit-refusal-spec = tie.close (tie.spec returns returns-2 entry-of-requires returns-3 returns-4)

@@ -1,18 +1,13 @@
-use Rattle.model.specs.State.{idle, stageOf}
+-- `advance`: each arm is the definition's clause for its stage; a number that is no stage is idle. Assumes nothing.
 use mathlib.Core.Path.{_≡_, sym, _∙_}
-use denote.Ref.{now}
-use Rattle.keeper.proofs.Stages.{no-stage, late-stays}
-use native.Mathlib.Omega.{arith}
 use mathlib.Core.Logic.{⊎-elim}
-use Rattle.keeper.proofs.Stages.{no-stage}
+use native.Mathlib.Omega.{arith}
 use borrow.Author.Needs.{needs}
+use denote.Ref.{now}
+use Rattle.model.specs.State.{idle, stageOf}
+use Rattle.keeper.proofs.Stages.{no-stage, late-stays}
 use Rattle.keeper.proofs.advance.Statement.{statement}
 use Rattle.keeper.proofs.advance.Tie as tie
-use Rattle.keeper.proofs.advance.Reads as reads
-use Rattle.keeper.proofs.advance.Lts as lts
-use Rattle.keeper.proofs.copy_word.Reads as copy-word-reads
-use Rattle.keeper.proofs.open_first.Reads as open-first-reads
-use Rattle.keeper.proofs.stay.Reads as stay-reads
 
 open-first-requires : tie.Need-open-first-requires
 open-first-requires c κs = search needs
@@ -33,13 +28,19 @@ returns-2 : tie.Need-returns-2
 returns-2 c = simp (c .before .match .keys2) (c .copy-word .ensures)
 
 returns-3 : tie.Need-returns-3
-returns-3 c = let a = c .before .before .before .before .before .args in c .stay .ensures ∙ sym (late-stays (now (a .arena)) (a .mv) (a .passed) (a .mv .stage) (omega arith) (omega arith))
+returns-3 c =
+    let b4 = c .before .before .before .before in
+    let a = b4 .before .args in c .stay .ensures ∙ sym
+    (late-stays (now (a .arena)) (a .mv) (a .passed) (a .mv .stage) (omega arith) (omega arith))
 
 returns-4 : tie.Need-returns-4
-returns-4 c = let a = c .before .before .before .before .args in
+returns-4 c =
+    let b4 = c .before .before .before .before in
+    let a = b4 .args in
     let n = c .before .before .match .rest in
     let e : stageOf (a .mv .stage) ≡ idle =
-    no-stage (a .mv .stage) (n .0 .1) (n .1) (λ e. ⊎-elim (λ w. omega arith) (λ w. omega arith) (c .before .if1 .came)) (λ e. ⊎-elim (λ w. omega arith) (λ w. omega arith) (c .before .if1 .came)) in
+    no-stage (a .mv .stage) (n .0 .1) (n .1) (λ e. ⊎-elim (λ w. omega arith) (λ w. omega arith) (c .before .if1 .came))
+    (λ e. ⊎-elim (λ w. omega arith) (λ w. omega arith) (c .before .if1 .came)) in
     rw e (c .stay2 .ensures)
 
 pub advance-spec : {M : Type 1} → statement M

@@ -1,13 +1,10 @@
-use Rattle.keeper.proofs.Stages.{early-unchanged}
-use denote.Ref.{now}
+-- `close`: each arm is the definition's clause for its stage. Assumes nothing.
 use mathlib.Core.Path.{sym}
 use borrow.Author.Needs.{needs}
+use denote.Ref.{now}
+use Rattle.keeper.proofs.Stages.{early-unchanged}
 use Rattle.keeper.proofs.close.Statement.{statement}
 use Rattle.keeper.proofs.close.Tie as tie
-use Rattle.keeper.proofs.close.Reads as reads
-use Rattle.keeper.proofs.close.Lts as lts
-use Rattle.keeper.proofs.give_back.Reads as give-back-reads
-use Rattle.keeper.proofs.settle.Reads as settle-reads
 
 settle-requires : tie.Need-settle-requires
 settle-requires c κs = search needs
@@ -22,7 +19,8 @@ returns-2 : tie.Need-returns-2
 returns-2 c = simp (c .before .match .keys2) (c .give-back .ensures)
 
 returns-3 : tie.Need-returns-3
-returns-3 c = let a = c .before .before .before .args in
+returns-3 c =
+    let a = c .before .before .before .args in
     let n = c .match .rest in
     sym (early-unchanged (a .control) (now (a .arena)) (a .control .mv .stage) (n .0 .1) (n .1))
 

@@ -1,11 +1,9 @@
-use Rattle.keeper.proofs.Stages.{late-closes, early-open}
-use native.Mathlib.Omega.{arith}
+-- `closes`: the second and third barrier close where all have passed, no other stage does. Assumes nothing.
 use mathlib.Core.Path.{sym}
-use borrow.Author.Needs.{needs}
+use native.Mathlib.Omega.{arith}
+use Rattle.keeper.proofs.Stages.{late-closes, early-open}
 use Rattle.keeper.proofs.closes.Statement.{statement}
 use Rattle.keeper.proofs.closes.Tie as tie
-use Rattle.keeper.proofs.closes.Reads as reads
-use Rattle.keeper.proofs.closes.Lts as lts
 
 returns : tie.Need-returns
 returns c = sym (late-closes (c .before .before .args .passed) (c .before .before .args .mv .stage) (omega arith) (omega arith))
@@ -14,7 +12,8 @@ returns-2 : tie.Need-returns-2
 returns-2 c = sym (early-open (c .before .args .passed) (c .before .args .mv .stage) (λ e. omega arith) (λ e. omega arith))
 
 returns-3 : tie.Need-returns-3
-returns-3 c = sym (early-open (c .before .before .args .passed) (c .before .before .args .mv .stage) (λ e. omega arith) (λ e. omega arith))
+returns-3 c = sym (early-open (c .before .before .args .passed) (c .before .before .args .mv .stage) (λ e. omega arith)
+    (λ e. omega arith))
 
 pub closes-spec : {M : Type 1} → statement M
 closes-spec = tie.close (tie.spec returns returns-2 returns-3)

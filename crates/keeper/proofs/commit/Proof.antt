@@ -1,13 +1,7 @@
+-- `commit`: by the contracts of the functions that it calls. Assumes nothing.
 use borrow.Author.Needs.{needs}
 use Rattle.keeper.proofs.commit.Statement.{statement}
 use Rattle.keeper.proofs.commit.Tie as tie
-use Rattle.keeper.proofs.commit.Reads as reads
-use Rattle.keeper.proofs.commit.Lts as lts
-use Rattle.keeper.proofs.one_more.Reads as one-more-reads
-use Rattle.keeper.proofs.plain_header.Reads as plain-header-reads
-use Rattle.keeper.proofs.set_entry.Reads as set-entry-reads
-use Rattle.keeper.proofs.wide.Reads as wide-reads
-use Rattle.record.proofs.place.Reads as place-reads
 
 wide-requires : tie.Need-wide-requires
 wide-requires c κs = search needs
@@ -28,7 +22,16 @@ plain-header-requires : tie.Need-plain-header-requires
 plain-header-requires c κs = search needs
 
 returns : tie.Need-returns
-returns c = simp (c .plain-header .ensures, c .before .place .ensures, c .before .before .one-more .ensures, c .before .before .before .set-entry .ensures, c .before .before .before .before .before .wide2 .ensures, c .before .before .before .before .before .before .wide .ensures)
+returns c =
+    let b4 = c .before .before .before .before in
+    simp (
+      c .plain-header .ensures,
+      c .before .place .ensures,
+      c .before .before .one-more .ensures,
+      c .before .before .before .set-entry .ensures,
+      b4 .before .wide2 .ensures,
+      b4 .before .before .wide .ensures,
+    )
 
 pub commit-spec : {M : Type 1} → statement M
 commit-spec =

@@ -1,18 +1,11 @@
-use Rattle.keeper.specs.Kept.{copyMove}
-use Rattle.model.specs.declared.Lengths.{Lengths}
-use borrow.Author.Tests.{eq-eqb, ne-eqb}
+-- `copy_word`: the word after the last is told by the record's length, read from the label. Assumes nothing.
 use mathlib.Core.Path.{sym, ap, _∙_}
+use borrow.Author.Tests.{eq-eqb, ne-eqb}
 use borrow.Author.Needs.{needs}
+use Rattle.model.specs.declared.Lengths.{Lengths}
+use Rattle.keeper.specs.Kept.{copyMove}
 use Rattle.keeper.proofs.copy_word.Statement.{statement}
 use Rattle.keeper.proofs.copy_word.Tie as tie
-use Rattle.keeper.proofs.copy_word.Reads as reads
-use Rattle.keeper.proofs.copy_word.Lts as lts
-use Rattle.keeper.proofs.one_copied.Reads as one-copied-reads
-use Rattle.keeper.proofs.one_more.Reads as one-more-reads
-use Rattle.keeper.proofs.replica_word.Reads as replica-word-reads
-use Rattle.keeper.proofs.wide.Reads as wide-reads
-use Rattle.record.proofs.lengths_at.Reads as lengths-at-reads
-use Rattle.record.proofs.place.Reads as place-reads
 
 wide-requires : tie.Need-wide-requires
 wide-requires c κs = search needs
@@ -40,13 +33,32 @@ one-copied-requires-2 c κs = search needs
 
 returns : tie.Need-returns
 unfolding copyMove
-returns c = let l = ap (λ (l : Lengths). l .words) (rw (c .before .before .before .before .before .before .before .before .wide .ensures) at (c .before .before .before .before .before .before .before .lengths-at .ensures)) in
-    simp (eq-eqb _ _ (sym (c .before .before .before .one-more .ensures) ∙ c .before .if1 .taken ∙ l), c .one-copied .ensures, c .before .before .before .before .replica-word .ensures, c .before .before .before .before .before .place .ensures, c .before .before .before .before .before .before .wide2 .ensures)
+returns c =
+    let b4 = c .before .before .before .before in
+    let b8 = b4 .before .before .before .before in
+    let l = ap (λ (l : Lengths). l .words) (rw (b8 .wide .ensures) at (b4 .before .before .before .lengths-at .ensures)) in
+    simp (
+      eq-eqb _ _ (sym (c .before .before .before .one-more .ensures) ∙ c .before .if1 .taken
+          ∙ l),
+      c .one-copied .ensures,
+      b4 .replica-word .ensures,
+      b4 .before .place .ensures,
+      b4 .before .before .wide2 .ensures,
+    )
 
 returns-2 : tie.Need-returns-2
 unfolding copyMove
-returns-2 c = let l = ap (λ (l : Lengths). l .words) (rw (c .before .before .before .before .before .before .before .before .wide .ensures) at (c .before .before .before .before .before .before .before .lengths-at .ensures)) in
-    simp (ne-eqb _ _ (rw (c .before .before .before .one-more .ensures, l) at (c .before .if1 .left)), c .one-copied2 .ensures, c .before .before .before .before .replica-word .ensures, c .before .before .before .before .before .place .ensures, c .before .before .before .before .before .before .wide2 .ensures)
+returns-2 c =
+    let b4 = c .before .before .before .before in
+    let b8 = b4 .before .before .before .before in
+    let l = ap (λ (l : Lengths). l .words) (rw (b8 .wide .ensures) at (b4 .before .before .before .lengths-at .ensures)) in
+    simp (
+      ne-eqb _ _ (rw (c .before .before .before .one-more .ensures, l) at (c .before .if1 .left)),
+      c .one-copied2 .ensures,
+      b4 .replica-word .ensures,
+      b4 .before .place .ensures,
+      b4 .before .before .wide2 .ensures,
+    )
 
 pub copy-word-spec : {M : Type 1} → statement M
 copy-word-spec =

@@ -1,9 +1,7 @@
+-- `one_copied`: by the contract of `one_more`. Assumes nothing.
 use borrow.Author.Needs.{needs}
 use Rattle.keeper.proofs.one_copied.Statement.{statement}
 use Rattle.keeper.proofs.one_copied.Tie as tie
-use Rattle.keeper.proofs.one_copied.Reads as reads
-use Rattle.keeper.proofs.one_copied.Lts as lts
-use Rattle.keeper.proofs.one_more.Reads as one-more-reads
 
 one-more-requires : tie.Need-one-more-requires
 one-more-requires c κs = search needs

@@ -1,10 +1,8 @@
-use Rattle.model.specs.State.{rise}
+-- `one_more`: the sum that wraps is the model's `rise`. Assumes nothing.
 use borrow.Author.Needs.{needs}
+use Rattle.model.specs.State.{rise}
 use Rattle.keeper.proofs.one_more.Statement.{statement}
 use Rattle.keeper.proofs.one_more.Tie as tie
-use Rattle.keeper.proofs.one_more.Reads as reads
-use Rattle.keeper.proofs.one_more.Lts as lts
-use Rattle.std.proofs.num.wrapping_add_u32.Reads as wrapping-add-u32-reads
 
 wrapping-add-u32-requires : tie.Need-wrapping-add-u32-requires
 wrapping-add-u32-requires c κs = search needs

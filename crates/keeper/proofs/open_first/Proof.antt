@@ -1,11 +1,9 @@
-use Rattle.keeper.specs.Kept.{openFirst}
+-- `open_first`: both ways of the barrier. Assumes nothing.
 use borrow.Author.Tests.{not-true, not-false}
 use borrow.Author.Needs.{needs}
+use Rattle.keeper.specs.Kept.{openFirst}
 use Rattle.keeper.proofs.open_first.Statement.{statement}
 use Rattle.keeper.proofs.open_first.Tie as tie
-use Rattle.keeper.proofs.open_first.Reads as reads
-use Rattle.keeper.proofs.open_first.Lts as lts
-use Rattle.keeper.proofs.stay.Reads as stay-reads
 
 stay-requires : tie.Need-stay-requires
 stay-requires c κs = search needs

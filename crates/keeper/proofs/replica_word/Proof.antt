@@ -1,14 +1,9 @@
-use Rattle.model.specs.KeeperSteps.{replicaWord}
+-- `replica_word`: word 0 is the new header, every other is read from the old block. Assumes nothing.
 use borrow.Author.Tests.{eq-eqb, ne-eqb}
 use borrow.Author.Needs.{needs}
+use Rattle.model.specs.KeeperSteps.{replicaWord}
 use Rattle.keeper.proofs.replica_word.Statement.{statement}
 use Rattle.keeper.proofs.replica_word.Tie as tie
-use Rattle.keeper.proofs.replica_word.Reads as reads
-use Rattle.keeper.proofs.replica_word.Lts as lts
-use Rattle.keeper.proofs.plain_header.Reads as plain-header-reads
-use Rattle.keeper.proofs.wide.Reads as wide-reads
-use Rattle.record.proofs.load.Reads as load-reads
-use Rattle.record.proofs.place.Reads as place-reads
 
 plain-header-requires : tie.Need-plain-header-requires
 plain-header-requires c κs = search needs
@@ -28,7 +23,13 @@ returns c = simp (eq-eqb _ _ (c .before .if1 .taken)) (c .plain-header .ensures)
 
 returns-2 : tie.Need-returns-2
 unfolding replicaWord
-returns-2 c = simp (ne-eqb _ _ (c .before .before .before .if1 .left), c .load .ensures, c .before .place .ensures, c .before .before .wide .ensures)
+returns-2 c =
+    simp (
+      ne-eqb _ _ (c .before .before .before .if1 .left),
+      c .load .ensures,
+      c .before .place .ensures,
+      c .before .before .wide .ensures,
+    )
 
 pub replica-word-spec : {M : Type 1} → statement M
 replica-word-spec =

@@ -1,12 +1,11 @@
+-- `set_entry`: above the 256 meters nothing is set. Assumes nothing.
+use mathlib.Core.Path.{sym}
+use native.Mathlib.Omega.{arith}
+use borrow.Author.Needs.{needs}
 use lib.Seq.{set-out}
 use denote.Ref.{now}
-use native.Mathlib.Omega.{arith}
-use mathlib.Core.Path.{sym}
-use borrow.Author.Needs.{needs}
 use Rattle.keeper.proofs.set_entry.Statement.{statement}
 use Rattle.keeper.proofs.set_entry.Tie as tie
-use Rattle.keeper.proofs.set_entry.Reads as reads
-use Rattle.keeper.proofs.set_entry.Lts as lts
 
 mul-dir : tie.Need-mul-dir
 mul-dir c = search needs

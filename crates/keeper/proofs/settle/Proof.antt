@@ -1,16 +1,10 @@
+-- `settle`: the header is compared once; the two ways are `commit` and `call_off`. Assumes nothing.
 use mathlib.Core.Path.{sym, _∙_}
-use Rattle.keeper.specs.Kept.{settleKept}
 use borrow.Author.Tests.{eq-eqb, ne-eqb}
 use borrow.Author.Needs.{needs}
+use Rattle.keeper.specs.Kept.{settleKept}
 use Rattle.keeper.proofs.settle.Statement.{statement}
 use Rattle.keeper.proofs.settle.Tie as tie
-use Rattle.keeper.proofs.settle.Reads as reads
-use Rattle.keeper.proofs.settle.Lts as lts
-use Rattle.keeper.proofs.call_off.Reads as call-off-reads
-use Rattle.keeper.proofs.commit.Reads as commit-reads
-use Rattle.keeper.proofs.flagged_header.Reads as flagged-header-reads
-use Rattle.keeper.proofs.wide.Reads as wide-reads
-use Rattle.record.proofs.header_at.Reads as header-at-reads
 
 wide-requires : tie.Need-wide-requires
 wide-requires c κs = search needs
@@ -29,12 +23,14 @@ call-off-requires c κs = search needs
 
 returns : tie.Need-returns
 unfolding settleKept
-returns c = let h = rw (c .before .before .before .before .wide .ensures) at (c .before .before .before .header-at .ensures) in
+returns c =
+    let h = rw (c .before .before .before .before .wide .ensures) at (c .before .before .before .header-at .ensures) in
     simp (eq-eqb _ _ (sym h ∙ c .before .if1 .taken ∙ c .before .before .flagged-header .ensures)) (c .commit .ensures)
 
 returns-2 : tie.Need-returns-2
 unfolding settleKept
-returns-2 c = let h = rw (c .before .before .before .before .wide .ensures) at (c .before .before .before .header-at .ensures) in
+returns-2 c =
+    let h = rw (c .before .before .before .before .wide .ensures) at (c .before .before .before .header-at .ensures) in
     simp (ne-eqb _ _ (rw (h, c .before .before .flagged-header .ensures) at (c .before .if1 .left))) (c .call-off .ensures)
 
 pub settle-spec : {M : Type 1} → statement M

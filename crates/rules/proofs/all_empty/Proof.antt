@@ -27,7 +27,8 @@ hold-of-requires c κs = search needs
 returns : tie.Need-returns Inv-loop μ-loop
 returns c =
     let b = c .before .before .before in
-    sym (all-not (eqb none) none (b .before .args .holds) (b .loop .i) (omega arith) (rw (c .before .hold-of .ensures) at (ne-eqb _ _ (c .if1 .taken))))
+    sym (all-not (eqb none) none (b .before .args .holds) (b .loop .i) (omega arith)
+    (rw (c .before .hold-of .ensures) at (ne-eqb _ _ (c .if1 .taken))))
 
 add-i : tie.Need-add-i Inv-loop μ-loop
 add-i c = search needs
@@ -42,7 +43,8 @@ loop-again c =
 
 returns-2 : tie.Need-returns-2 Inv-loop μ-loop
 returns-2 c =
-    sym (all-done (eqb none) none (c .before .before .args .holds) (c .before .loop .i) (c .before .loop .inv .0) (omega arith) (omega arith))
+    sym (all-done (eqb none) none (c .before .before .args .holds) (c .before .loop .i) (c .before .loop .inv .0) (omega arith)
+    (omega arith))
 
 pub all-empty-spec : {M : Type 1} → statement M
 all-empty-spec =

@@ -47,7 +47,9 @@ returns-2 c =
     let flag-up = b .before .before .flag-up in
     let b2 = b .before .before .before in
     let b3 = b2 .before .before .before in
-    rw (← flag-up .ensures) (sym (row-stops (swapsRight (flag-up .result) (b3 .args .mv .from) (b3 .args .begun)) (now (b3 .args .table)) (b .loop .i) (b2 .if1 .left) (omega arith) (c .before .before .checked-row-at .ensures) (said-no (c .before .swaps-right .ensures) (c .if2 .taken))))
+    rw (← flag-up .ensures) (sym (row-stops (swapsRight (flag-up .result) (b3 .args .mv .from) (b3 .args .begun))
+    (now (b3 .args .table)) (b .loop .i) (b2 .if1 .left) (omega arith) (c .before .before .checked-row-at .ensures)
+    (said-no (c .before .swaps-right .ensures) (c .if2 .taken))))
 
 add-i : tie.Need-add-i Inv-loop μ-loop
 add-i c = search needs
@@ -59,15 +61,20 @@ loop-again : tie.Need-loop-again Inv-loop μ-loop
 loop-again c =
     let b = c .before .before .before .before in
     let b2 = b .before .before .before in
-    let b3 = b2 .before .before .before in
-    (row-more (swapsRight (b .before .before .flag-up .result) (b3 .args .mv .from) (b3 .args .begun)) (now (b3 .args .table)) (b .loop .i) (b2 .if1 .left) (b .loop .inv .0) (omega arith) (c .before .before .checked-row-at .ensures) (said-yes (c .before .swaps-right .ensures) (c .if2 .left)), omega arith)
+    let b3 = b2 .before .before .before in (
+      row-more (swapsRight (b .before .before .flag-up .result) (b3 .args .mv .from) (b3 .args .begun)) (now (b3 .args .table))
+          (b .loop .i) (b2 .if1 .left) (b .loop .inv .0) (omega arith) (c .before .before .checked-row-at .ensures)
+          (said-yes (c .before .swaps-right .ensures) (c .if2 .left)),
+      omega arith,
+    )
 
 returns-3 : tie.Need-returns-3 Inv-loop μ-loop
 unfolding R8
 returns-3 c =
     let b = c .before .before .before in
     let b2 = b .before .before .before .before in
-    rw (← b .flag-up .ensures) (sym (rows-done (swapsRight (b .flag-up .result) (b2 .args .mv .from) (b2 .args .begun)) (now (b2 .args .table)) (c .before .loop .i) (b .before .if1 .left) (c .before .loop .inv .0) (omega arith) (omega arith)))
+    rw (← b .flag-up .ensures) (sym (rows-done (swapsRight (b .flag-up .result) (b2 .args .mv .from) (b2 .args .begun))
+    (now (b2 .args .table)) (c .before .loop .i) (b .before .if1 .left) (c .before .loop .inv .0) (omega arith) (omega arith)))
 
 pub all-swaps-right-spec : {M : Type 1} → statement M
 all-swaps-right-spec =

@@ -20,7 +20,8 @@ unfolding firstBroken
 returns-2 c =
     simp (
       said-yes (c .before .before .before .records-right .ensures) (c .before .before .if1 .left),
-      said-no (c .before .move-right .ensures) (c .if2 .taken),
+      said-no
+          (c .before .move-right .ensures) (c .if2 .taken),
     )
 
 cells-right-requires : tie.Need-cells-right-requires
@@ -32,7 +33,8 @@ returns-3 c =
     let b = c .before .before .before in
     simp (
       said-yes (b .before .before .records-right .ensures) (b .before .if1 .left),
-      said-yes (b .move-right .ensures) (c .before .before .if2 .left),
+      said-yes (b .move-right .ensures)
+          (c .before .before .if2 .left),
       said-no (c .before .cells-right .ensures) (c .if3 .taken),
     )
 
@@ -46,9 +48,11 @@ returns-4 c =
     let b2 = b .before .before .before in
     simp (
       said-yes (b2 .before .records-right .ensures) (b2 .if1 .left),
-      said-yes (b .before .before .move-right .ensures) (b .before .if2 .left),
+      said-yes (b .before .before .move-right .ensures)
+          (b .before .if2 .left),
       said-yes (b .cells-right .ensures) (c .before .before .if3 .left),
-      said-no (c .before .headers-right .ensures) (c .if4 .taken),
+      said-no
+          (c .before .headers-right .ensures) (c .if4 .taken),
     )
 
 numbers-right-requires : tie.Need-numbers-right-requires
@@ -61,10 +65,12 @@ returns-5 c =
     let b2 = b .before .before .before in
     simp (
       said-yes (b2 .before .before .before .records-right .ensures) (b2 .before .before .if1 .left),
-      said-yes (b2 .before .move-right .ensures) (b2 .if2 .left),
+      said-yes
+          (b2 .before .move-right .ensures) (b2 .if2 .left),
       said-yes (b .before .before .cells-right .ensures) (b .before .if3 .left),
       said-yes (b .headers-right .ensures) (c .before .before .if4 .left),
-      said-no (c .before .numbers-right .ensures) (c .if5 .taken),
+      said-no (c .before .numbers-right .ensures)
+          (c .if5 .taken),
     )
 
 rows-right-requires : tie.Need-rows-right-requires
@@ -80,10 +86,13 @@ returns-6 c =
     let b3 = b2 .before .before .before in
     simp (
       said-yes (b3 .before .before .records-right .ensures) (b3 .before .if1 .left),
-      said-yes (b3 .move-right .ensures) (b2 .before .before .if2 .left),
+      said-yes (b3 .move-right .ensures)
+          (b2 .before .before .if2 .left),
       said-yes (b2 .before .cells-right .ensures) (b2 .if3 .left),
-      said-yes (b .before .before .headers-right .ensures) (b .before .if4 .left),
-      said-yes (b .numbers-right .ensures) (c .before .before .if5 .left),
+      said-yes
+          (b .before .before .headers-right .ensures) (b .before .if4 .left),
+      said-yes (b .numbers-right .ensures)
+          (c .before .before .if5 .left),
       said-no (c .before .rows-right .ensures) (c .if6 .taken),
     )
 
@@ -99,12 +108,16 @@ returns-7 c =
     let b4 = b3 .before .before .before in
     simp (
       said-yes (b4 .before .records-right .ensures) (b4 .if1 .left),
-      said-yes (b3 .before .before .move-right .ensures) (b3 .before .if2 .left),
+      said-yes (b3 .before .before .move-right .ensures)
+          (b3 .before .if2 .left),
       said-yes (b3 .cells-right .ensures) (b2 .before .before .if3 .left),
-      said-yes (b2 .before .headers-right .ensures) (b2 .if4 .left),
-      said-yes (b .before .before .numbers-right .ensures) (b .before .if5 .left),
+      said-yes
+          (b2 .before .headers-right .ensures) (b2 .if4 .left),
+      said-yes (b .before .before .numbers-right .ensures)
+          (b .before .if5 .left),
       said-yes (b .rows-right .ensures) (c .before .before .if6 .left),
-      said-no (c .before .counts-right .ensures) (c .if7 .taken),
+      said-no
+          (c .before .counts-right .ensures) (c .if7 .taken),
     )
 
 all-swaps-right-requires : tie.Need-all-swaps-right-requires
@@ -119,12 +132,15 @@ returns-8 c =
     let b4 = b3 .before .before .before in
     simp (
       said-yes (b4 .before .before .before .records-right .ensures) (b4 .before .before .if1 .left),
-      said-yes (b4 .before .move-right .ensures) (b4 .if2 .left),
+      said-yes
+          (b4 .before .move-right .ensures) (b4 .if2 .left),
       said-yes (b3 .before .before .cells-right .ensures) (b3 .before .if3 .left),
       said-yes (b3 .headers-right .ensures) (b2 .before .before .if4 .left),
-      said-yes (b2 .before .numbers-right .ensures) (b2 .if5 .left),
+      said-yes (b2 .before .numbers-right .ensures)
+          (b2 .if5 .left),
       said-yes (b .before .before .rows-right .ensures) (b .before .if6 .left),
-      said-yes (b .counts-right .ensures) (c .before .before .if7 .left),
+      said-yes (b .counts-right .ensures)
+          (c .before .before .if7 .left),
       said-no (c .before .all-swaps-right .ensures) (c .if8 .taken),
     )
 
@@ -137,12 +153,15 @@ returns-9 c =
     let b4 = b3 .before .before .before in
     simp (
       said-yes (b4 .before .before .before .records-right .ensures) (b4 .before .before .if1 .left),
-      said-yes (b4 .before .move-right .ensures) (b4 .if2 .left),
+      said-yes
+          (b4 .before .move-right .ensures) (b4 .if2 .left),
       said-yes (b3 .before .before .cells-right .ensures) (b3 .before .if3 .left),
       said-yes (b3 .headers-right .ensures) (b2 .before .before .if4 .left),
-      said-yes (b2 .before .numbers-right .ensures) (b2 .if5 .left),
+      said-yes (b2 .before .numbers-right .ensures)
+          (b2 .if5 .left),
       said-yes (b .before .before .rows-right .ensures) (b .before .if6 .left),
-      said-yes (b .counts-right .ensures) (c .before .before .if7 .left),
+      said-yes (b .counts-right .ensures)
+          (c .before .before .if7 .left),
       said-yes (c .before .all-swaps-right .ensures) (c .if8 .left),
     )
 

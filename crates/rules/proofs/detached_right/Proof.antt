@@ -24,7 +24,8 @@ returns-3 c =
     simp (
       b .before .before .if1 .left,
       not-false (b .before .before .before .args .row .passed) (b .if2 .left),
-      said-no (c .before .all-empty .ensures) (c .if3 .taken),
+      said-no
+          (c .before .all-empty .ensures) (c .if3 .taken),
     )
 
 is-busy-requires : tie.Need-is-busy-requires
@@ -37,7 +38,8 @@ returns-4 c =
     simp (
       c .is-busy .ensures,
       b .before .before .if1 .left,
-      not-false (b .before .before .before .args .row .passed) (b .if2 .left),
+      not-false (b .before .before .before .args .row .passed)
+          (b .if2 .left),
       said-yes (c .before .before .all-empty .ensures) (c .before .if3 .left),
     )
 

@@ -37,7 +37,8 @@ returns-3 c =
     let b = c .before .before .before in
     let b2 = b .before .before .before in
     let b3 = b2 .before .before .before in
-    early-fits (now (b3 .args .dir)) (b3 .args .mv) (now (b3 .args .arena)) (λ z. b .before .before .if1 .left (b2 .entry-of .ensures ∙ z)) (sym (b2 .entry-of .ensures) ∙ b .before .if2 .left)
+    early-fits (now (b3 .args .dir)) (b3 .args .mv) (now (b3 .args .arena))
+    (λ z. b .before .before .if1 .left (b2 .entry-of .ensures ∙ z)) (sym (b2 .entry-of .ensures) ∙ b .before .if2 .left)
     (rw (b .lengths-at .ensures) at (said-no (c .before .fits2 .ensures) (c .if3 .taken)))
 
 replica-right-requires : tie.Need-replica-right-requires
@@ -49,7 +50,8 @@ returns-4 c =
     let b2 = b .before .before .before in
     let b3 = b2 .before .before .before in
     c .replica-right .ensures
-    ∙ early-last (now (b3 .args .dir)) (b3 .args .mv) (now (b3 .args .arena)) (λ z. b .before .before .if1 .left (b2 .entry-of .ensures ∙ z)) (sym (b2 .entry-of .ensures) ∙ b .before .if2 .left)
+    ∙ early-last (now (b3 .args .dir)) (b3 .args .mv) (now (b3 .args .arena))
+    (λ z. b .before .before .if1 .left (b2 .entry-of .ensures ∙ z)) (sym (b2 .entry-of .ensures) ∙ b .before .if2 .left)
     (rw (b .lengths-at .ensures) at (said-yes (c .before .before .fits2 .ensures) (c .before .if3 .left)))
 
 pub early-right-spec : {M : Type 1} → statement M

@@ -7,8 +7,14 @@ use Rattle.rules.proofs.first_broken.Statement.{statement}
 use Rattle.rules.proofs.first_broken.Tie as tie
 
 broken-requires : tie.Need-broken-requires
-broken-requires c κs =
-    (search needs, record { sixteen = search needs; words = λ i. let f : Fits w64 (getD (c .before .before .before .before .before .before .args .t1 .map) i 0) = search needs in f .fits })
+broken-requires c κs = (
+  search needs,
+  record {
+    sixteen = search needs;
+    words = λ i. let f : Fits w64
+        (getD (c .before .before .before .before .before .before .args .t1 .map) i 0) = search needs in f .fits;
+  },
+)
 
 returns : tie.Need-returns
 returns c = search needs

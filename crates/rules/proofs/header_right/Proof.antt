@@ -44,7 +44,8 @@ returns-3 c =
       ← b .before .header-at .ensures,
       ← b .is-plain .ensures,
       c .before .before .if2 .left,
-      said-no (c .before .is-early .ensures) (c .if3 .taken),
+      said-no (c .before .is-early .ensures)
+          (c .if3 .taken),
     )
 
 returns-4 : tie.Need-returns-4
@@ -77,7 +78,8 @@ returns-5 c =
       ← b2 .before .header-at .ensures,
       ← b2 .is-plain .ensures,
       b .before .before .if2 .left,
-      said-yes (b .before .is-early .ensures) (b .if3 .left),
+      said-yes
+          (b .before .is-early .ensures) (b .if3 .left),
       eq-eqb _ _ (c .before .if4 .left),
     )
 

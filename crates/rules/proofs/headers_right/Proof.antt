@@ -29,7 +29,8 @@ unfolding R4
 returns c =
     let b = c .before .before .before in
     let args = b .before .before .args in
-    simp (every-not (headerRight (now (args .dir)) (args .mv) (now (args .arena))) 256 (b .loop .m) (omega arith) (said-no (c .before .header-right .ensures) (c .if1 .taken)))
+    simp (every-not (headerRight (now (args .dir)) (args .mv) (now (args .arena))) 256 (b .loop .m) (omega arith)
+    (said-no (c .before .header-right .ensures) (c .if1 .taken)))
 
 add-m : tie.Need-add-m Inv-loop μ-loop
 add-m c = search needs
@@ -50,7 +51,11 @@ unfolding R4
 returns-2 c =
     let b = c .before .before .before in
     let args = b .before .before .args in
-    simp (every-done (headerRight (now (args .dir)) (args .mv) (now (args .arena))) 256 (b .loop .m) (b .loop .inv .0) (omega arith) (omega arith), said-no (c .before .is-late .ensures) (c .if2 .taken))
+    simp (
+      every-done (headerRight (now (args .dir)) (args .mv) (now (args .arena))) 256 (b .loop .m) (b .loop .inv .0)
+          (omega arith) (omega arith),
+      said-no (c .before .is-late .ensures) (c .if2 .taken),
+    )
 
 cast-header-at : tie.Need-cast-header-at Inv-loop μ-loop
 cast-header-at c = search needs
@@ -70,7 +75,13 @@ returns-3 c =
     let b = c .before .before .before .before in
     let b2 = b .before .before .before in
     let args = b2 .before .before .args in
-    simp (every-done (headerRight (now (args .dir)) (args .mv) (now (args .arena))) 256 (b2 .loop .m) (b2 .loop .inv .0) (omega arith) (omega arith), said-yes (b .before .is-late .ensures) (b .if2 .left), ← c .before .before .header-at .ensures, ← c .is-plain .ensures)
+    simp (
+      every-done (headerRight (now (args .dir)) (args .mv) (now (args .arena))) 256 (b2 .loop .m) (b2 .loop .inv .0)
+          (omega arith) (omega arith),
+      said-yes (b .before .is-late .ensures) (b .if2 .left),
+      ← c .before .before .header-at .ensures,
+      ← c .is-plain .ensures,
+    )
 
 pub headers-right-spec : {M : Type 1} → statement M
 headers-right-spec =

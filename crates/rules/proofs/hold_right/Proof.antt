@@ -31,7 +31,8 @@ returns-3 c =
       ne-eqb _ _ (b .before .if1 .left),
       ← b .is-present .ensures,
       c .before .before .if2 .left,
-      said-no (c .before .is-late .ensures) (c .if3 .taken),
+      said-no
+          (c .before .is-late .ensures) (c .if3 .taken),
     )
 
 cast-result : tie.Need-cast-result
@@ -41,7 +42,8 @@ returns-4 : tie.Need-returns-4
 returns-4 c =
     let b = c .before .before .before in
     let b2 = b .before .before .before .before in
-    hold-last (now (b2 .args .dir)) (b2 .args .mv) (b2 .args .h) (b .before .before .if1 .left) (sym (b .before .is-present .ensures) ∙ b .if2 .left) (said-yes (c .before .before .is-late .ensures) (c .before .if3 .left))
+    hold-last (now (b2 .args .dir)) (b2 .args .mv) (b2 .args .h) (b .before .before .if1 .left)
+    (sym (b .before .is-present .ensures) ∙ b .if2 .left) (said-yes (c .before .before .is-late .ensures) (c .before .if3 .left))
 
 pub hold-right-spec : {M : Type 1} → statement M
 hold-right-spec =

@@ -27,7 +27,8 @@ hold-of-requires c κs = search needs
 returns : tie.Need-returns Inv-loop μ-loop
 returns c =
     let b = c .before .before .before in
-    sym (any-found (eqb (b .before .args .c)) none (b .before .args .holds) (b .loop .i) (omega arith) (rw (c .before .hold-of .ensures) at (eq-eqb _ _ (c .if1 .taken))))
+    sym (any-found (eqb (b .before .args .c)) none (b .before .args .holds) (b .loop .i) (omega arith)
+    (rw (c .before .hold-of .ensures) at (eq-eqb _ _ (c .if1 .taken))))
 
 add-i : tie.Need-add-i Inv-loop μ-loop
 add-i c = search needs
@@ -36,8 +37,10 @@ loop-less : tie.Need-loop-less Inv-loop μ-loop
 loop-less c = search needs
 
 loop-again : tie.Need-loop-again Inv-loop μ-loop
-loop-again c =
-    (below-more _ _ (c .before .before .before .loop .inv .0) (λ e. c .if1 .left (e ∙ sym (c .before .hold-of .ensures))), omega arith)
+loop-again c = (
+  below-more _ _ (c .before .before .before .loop .inv .0) (λ e. c .if1 .left (e ∙ sym (c .before .hold-of .ensures))),
+  omega arith,
+)
 
 returns-2 : tie.Need-returns-2 Inv-loop μ-loop
 returns-2 c =

@@ -32,7 +32,8 @@ returns : tie.Need-returns Inv-loop μ-loop
 returns c =
     let b = c .before .before .before .before in
     let args = b .before .before .args in
-    sym (all-not (holdRight (now (args .dir)) (args .mv)) none (args .holds) (b .loop .i) (omega arith) (rw (c .before .before .hold-of .ensures) at (said-no (c .before .hold-right .ensures) (c .if1 .taken))))
+    sym (all-not (holdRight (now (args .dir)) (args .mv)) none (args .holds) (b .loop .i) (omega arith)
+    (rw (c .before .before .hold-of .ensures) at (said-no (c .before .hold-right .ensures) (c .if1 .taken))))
 
 add-i : tie.Need-add-i Inv-loop μ-loop
 add-i c = search needs
@@ -42,13 +43,17 @@ loop-less c = search needs
 
 loop-again : tie.Need-loop-again Inv-loop μ-loop
 loop-again c =
-    let b = c .before .before .before .before in
-    (every-more _ (b .loop .i) (b .loop .inv .0) (rw (c .before .before .hold-of .ensures) at (said-yes (c .before .hold-right .ensures) (c .if1 .left))), omega arith)
+    let b = c .before .before .before .before in (
+      every-more _ (b .loop .i) (b .loop .inv .0) (rw (c .before .before .hold-of .ensures) at
+          (said-yes (c .before .hold-right .ensures) (c .if1 .left))),
+      omega arith,
+    )
 
 returns-2 : tie.Need-returns-2 Inv-loop μ-loop
 returns-2 c =
     let b = c .before .before .before in
-    sym (all-done (holdRight (now (b .args .dir)) (b .args .mv)) none (b .args .holds) (c .before .loop .i) (c .before .loop .inv .0) (omega arith) (omega arith))
+    sym (all-done (holdRight (now (b .args .dir)) (b .args .mv)) none (b .args .holds) (c .before .loop .i)
+    (c .before .loop .inv .0) (omega arith) (omega arith))
 
 pub holds-right-spec : {M : Type 1} → statement M
 holds-right-spec =

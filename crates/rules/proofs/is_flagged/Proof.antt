@@ -17,7 +17,8 @@ returns c =
 returns-2 : tie.Need-returns-2
 returns-2 c =
     let b = c .before .before .before in
-    simp (b .unpack .ensures) (flagged-target (b .before .args .h) (b .before .args .c) (not-false _ (rw (b .unpack .ensures) at (c .before .if1 .left))))
+    simp (b .unpack .ensures) (flagged-target (b .before .args .h) (b .before .args .c)
+    (not-false _ (rw (b .unpack .ensures) at (c .before .if1 .left))))
 
 pub is-flagged-spec : {M : Type 1} → statement M
 is-flagged-spec = tie.close (tie.spec unpack-requires returns returns-2)

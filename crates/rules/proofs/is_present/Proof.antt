@@ -20,10 +20,8 @@ entry-of-requires c κs = search needs
 returns : tie.Need-returns
 returns c =
     let b = c .before .before .before .before in
-    ap (λ (x : ℕ). eqb x (b .args .c)) (rw (
-      c .before .unpack-label .ensures,
-      c .before .before .label-at .ensures,
-    ) at (c .entry-of .ensures))
+    ap (λ (x : ℕ). eqb x (b .args .c)) (rw (c .before .unpack-label .ensures, c .before .before .label-at .ensures) at
+    (c .entry-of .ensures))
     ∙ present-by-label (now (b .args .dir)) (now (b .args .arena)) (b .args .c) (b .pre .0) (b .pre .1) (b .pre .2)
 
 pub is-present-spec : {M : Type 1} → statement M

@@ -56,8 +56,8 @@ returns-4 c =
     let b2 = b .before .before .before in
     let b3 = b2 .before .before .before .before .before in
     rw (c .before .lengths-at .ensures) at (c .fits2 .ensures)
-    ∙ late-last (now (b3 .args .dir)) (b3 .args .mv) (now (b3 .args .arena)) (λ z. b2 .if1 .left (b2 .before .entry-of .ensures
-    ∙ z)) (sym (b2 .before .entry-of .ensures) ∙ b .before .before .if2 .left)
+    ∙ late-last (now (b3 .args .dir)) (b3 .args .mv) (now (b3 .args .arena))
+    (λ z. b2 .if1 .left (b2 .before .entry-of .ensures ∙ z)) (sym (b2 .before .entry-of .ensures) ∙ b .before .before .if2 .left)
     (sym (b .before .label-at .ensures) ∙ c .before .before .if3 .left ∙ b .label-at2 .ensures)
 
 pub late-right-spec : {M : Type 1} → statement M

@@ -22,7 +22,8 @@ early-right-requires c κs = search needs
 returns-2 : tie.Need-returns-2
 returns-2 c =
     let b = c .before .before .before .before .before .before in
-    c .early-right .ensures ∙ move-early (now (b .args .dir)) (b .args .mv) (now (b .args .arena)) (omega arith) (sym (c .before .before .is-early .ensures) ∙ c .before .if2 .taken)
+    c .early-right .ensures ∙ move-early (now (b .args .dir)) (b .args .mv) (now (b .args .arena)) (omega arith)
+    (sym (c .before .before .is-early .ensures) ∙ c .before .if2 .taken)
 
 is-late-requires : tie.Need-is-late-requires
 is-late-requires c κs = search needs
@@ -34,14 +35,15 @@ returns-3 : tie.Need-returns-3
 returns-3 c =
     let b = c .before .before .before in
     let b2 = b .before .before .before .before .before in
-    c .late-right .ensures ∙ move-late (now (b2 .args .dir)) (b2 .args .mv) (now (b2 .args .arena)) (omega arith) (sym (b .before .is-early .ensures) ∙ b .if2 .left) (sym (c .before .before .is-late .ensures) ∙ c .before .if3 .taken)
+    c .late-right .ensures ∙ move-late (now (b2 .args .dir)) (b2 .args .mv) (now (b2 .args .arena)) (omega arith)
+    (sym (b .before .is-early .ensures) ∙ b .if2 .left) (sym (c .before .before .is-late .ensures) ∙ c .before .if3 .taken)
 
 returns-4 : tie.Need-returns-4
 returns-4 c =
     let b = c .before .before .before in
     let b2 = b .before .before .before .before in
-    move-idle (now (b2 .args .dir)) (b2 .args .mv) (now (b2 .args .arena)) (omega arith) (sym (b .is-early .ensures)
-    ∙ c .before .before .if2 .left) (sym (c .before .is-late .ensures) ∙ c .if3 .left)
+    move-idle (now (b2 .args .dir)) (b2 .args .mv) (now (b2 .args .arena)) (omega arith)
+    (sym (b .is-early .ensures) ∙ c .before .before .if2 .left) (sym (c .before .is-late .ensures) ∙ c .if3 .left)
 
 pub move-right-spec : {M : Type 1} → statement M
 move-right-spec =

@@ -15,7 +15,8 @@ returns-3 c =
     simp (
       eq-eqb _ _ (c .before .before .before .before .if1 .left),
       eq-eqb _ _ (c .before .before .if2 .left),
-      ne-eqb _ _ (c .if3 .taken),
+      ne-eqb _ _
+          (c .if3 .taken),
     )
 
 returns-4 : tie.Need-returns-4

@@ -35,7 +35,8 @@ unfolding R5
 returns-5 c =
     let n = c .before .match .rest in simp (
       c .no-numbers .ensures,
-      stage-none (c .before .before .before .before .before .args .mv .stage) (n .0 .0 .0 .1) (n .0 .0 .1) (n .0 .1) (n .1),
+      stage-none
+          (c .before .before .before .before .before .args .mv .stage) (n .0 .0 .0 .1) (n .0 .0 .1) (n .0 .1) (n .1),
     )
 
 pub numbers-right-spec : {M : Type 1} → statement M

@@ -33,7 +33,8 @@ returns-3 c =
     simp (
       c .holds-cell .ensures,
       said-yes (b2 .is-late .ensures) (b .before .before .if1 .left),
-      not-false (b2 .before .args .row .passed) (b .if2 .left),
+      not-false
+          (b2 .before .args .row .passed) (b .if2 .left),
     )
 
 pub passed-right-spec : {M : Type 1} → statement M

@@ -73,7 +73,8 @@ returns-4 c =
       ← b .before .before .hold-number .ensures,
       ← b .before .hold-of .ensures,
       ← b .word-number .ensures,
-      said-yes (c .before .before .access-right .ensures) (c .before .if1 .left),
+      said-yes (c .before .before .access-right .ensures)
+          (c .before .if1 .left),
       ← c .ready-right .ensures,
     )
 

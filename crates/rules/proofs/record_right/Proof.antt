@@ -26,7 +26,8 @@ returns-2 c =
       ← b .before .before .entry-of .ensures,
       ← b .label-at .ensures,
       ne-eqb _ _ (b .before .if1 .left),
-      ne-eqb _ _ (rw (c .before .before .unpack-label .ensures) at (c .if2 .taken)),
+      ne-eqb _ _
+          (rw (c .before .before .unpack-label .ensures) at (c .if2 .taken)),
     )
 
 lengths-of-requires : tie.Need-lengths-of-requires

@@ -26,7 +26,8 @@ record-right-requires c κs = search needs
 returns : tie.Need-returns Inv-loop μ-loop
 unfolding R1
 returns c =
-    sym (every-not _ 256 (c .before .before .before .loop .m) (omega arith) (said-no (c .before .record-right .ensures) (c .if1 .taken)))
+    sym (every-not _ 256 (c .before .before .before .loop .m) (omega arith)
+    (said-no (c .before .record-right .ensures) (c .if1 .taken)))
 
 add-m : tie.Need-add-m Inv-loop μ-loop
 add-m c = search needs

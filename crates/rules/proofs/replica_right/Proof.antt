@@ -55,7 +55,8 @@ returns-4 c =
     let b = c .before .before .before .before .before in
     let b2 = b .before .before .before .before .before .before .before in
     ap₂ eqb (c .before .before .label-at .ensures) (c .label-at2 .ensures)
-    ∙ replica-last [] (b2 .args .mv) (now (b2 .args .arena)) (omega arith) (rw (b .before .before .header-at .ensures) at (said-yes (b .before .is-plain .ensures) (b .if2 .left)))
+    ∙ replica-last [] (b2 .args .mv) (now (b2 .args .arena)) (omega arith)
+    (rw (b .before .before .header-at .ensures) at (said-yes (b .before .is-plain .ensures) (b .if2 .left)))
 
 pub replica-right-spec : {M : Type 1} → statement M
 replica-right-spec =

@@ -23,7 +23,8 @@ unfolding rowRight
 returns-2 c =
     simp (
       said-yes (c .before .before .before .detached-right .ensures) (c .before .before .if1 .left),
-      said-no (c .before .holds-right .ensures) (c .if2 .taken),
+      said-no
+          (c .before .holds-right .ensures) (c .if2 .taken),
     )
 
 phase-right-requires : tie.Need-phase-right-requires
@@ -36,9 +37,10 @@ returns-3 c =
     let b2 = b .before .before .before .before .before in
     simp (
       said-yes (b .before .before .detached-right .ensures) (b .before .if1 .left),
-      said-yes (b .holds-right .ensures) (c .before .before .if2 .left),
-      sym (phase-row (now (b2 .args .arena)) (b2 .args .row) (b2 .args .row .phase))
-          ∙ said-no (c .before .phase-right .ensures) (c .if3 .taken),
+      said-yes (b .holds-right .ensures)
+          (c .before .before .if2 .left),
+      sym (phase-row (now (b2 .args .arena)) (b2 .args .row) (b2 .args .row .phase)) ∙ said-no
+          (c .before .phase-right .ensures) (c .if3 .taken),
     )
 
 passed-right-requires : tie.Need-passed-right-requires
@@ -53,9 +55,11 @@ returns-4 c =
     simp (
       c .passed-right .ensures,
       said-yes (b2 .detached-right .ensures) (b .before .before .if1 .left),
-      said-yes (b .before .holds-right .ensures) (b .if2 .left),
-      sym (phase-row (now (b3 .args .arena)) (b3 .args .row) (b3 .args .row .phase))
-          ∙ said-yes (c .before .before .phase-right .ensures) (c .before .if3 .left),
+      said-yes
+          (b .before .holds-right .ensures) (b .if2 .left),
+      sym
+          (phase-row (now (b3 .args .arena)) (b3 .args .row) (b3 .args .row .phase)) ∙ said-yes (c .before .before .phase-right .ensures)
+          (c .before .if3 .left),
     )
 
 pub row-right-spec : {M : Type 1} → statement M

@@ -39,7 +39,9 @@ unfolding R6
 returns-2 c =
     let b = c .before .before .before .before in
     let b2 = b .before .before .before .before in
-    sym (row-stops (rowRight (now (b2 .args .dir)) (b2 .args .mv) (now (b2 .args .arena))) (now (b2 .args .table)) (b .loop .i) (b .before .if1 .left) (omega arith) (c .before .before .checked-row-at .ensures) (said-no (c .before .row-right .ensures) (c .if2 .taken)))
+    sym (row-stops (rowRight (now (b2 .args .dir)) (b2 .args .mv) (now (b2 .args .arena))) (now (b2 .args .table)) (b .loop .i)
+    (b .before .if1 .left) (omega arith) (c .before .before .checked-row-at .ensures)
+    (said-no (c .before .row-right .ensures) (c .if2 .taken)))
 
 add-i : tie.Need-add-i Inv-loop μ-loop
 add-i c = search needs
@@ -50,14 +52,19 @@ loop-less c = search needs
 loop-again : tie.Need-loop-again Inv-loop μ-loop
 loop-again c =
     let b = c .before .before .before .before in
-    let b2 = b .before .before .before .before in
-    (row-more (rowRight (now (b2 .args .dir)) (b2 .args .mv) (now (b2 .args .arena))) (now (b2 .args .table)) (b .loop .i) (b .before .if1 .left) (b .loop .inv .0) (omega arith) (c .before .before .checked-row-at .ensures) (said-yes (c .before .row-right .ensures) (c .if2 .left)), omega arith)
+    let b2 = b .before .before .before .before in (
+      row-more (rowRight (now (b2 .args .dir)) (b2 .args .mv) (now (b2 .args .arena))) (now (b2 .args .table)) (b .loop .i)
+          (b .before .if1 .left) (b .loop .inv .0) (omega arith) (c .before .before .checked-row-at .ensures)
+          (said-yes (c .before .row-right .ensures) (c .if2 .left)),
+      omega arith,
+    )
 
 returns-3 : tie.Need-returns-3 Inv-loop μ-loop
 unfolding R6
 returns-3 c =
     let b = c .before .before .before .before .before in
-    sym (rows-done (rowRight (now (b .args .dir)) (b .args .mv) (now (b .args .arena))) (now (b .args .table)) (c .before .loop .i) (c .before .before .if1 .left) (c .before .loop .inv .0) (omega arith) (omega arith))
+    sym (rows-done (rowRight (now (b .args .dir)) (b .args .mv) (now (b .args .arena))) (now (b .args .table)) (c .before .loop .i)
+    (c .before .before .if1 .left) (c .before .loop .inv .0) (omega arith) (omega arith))
 
 pub rows-right-spec : {M : Type 1} → statement M
 rows-right-spec =

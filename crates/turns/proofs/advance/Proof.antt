@@ -1,5 +1,9 @@
 -- `turns::advance` meets its contract: the word and the marks are stored as the move has them. Assumes nothing.
+use denote.Ref.{now}
 use borrow.Author.Needs.{needs}
+use mathlib.Core.Path.{ap, _∙_}
+use Rattle.keeper.specs.declared.Moved.{Moved}
+use Rattle.turns.specs.Turns.{clearIf}
 use Rattle.turns.proofs.advance.Statement.{statement}
 use Rattle.turns.proofs.advance.Tie as tie
 
@@ -19,9 +23,16 @@ same-length-2 : tie.Need-same-length-2
 same-length-2 c = search needs
 
 returns : tie.Need-returns
-returns c = let b = c .before .before .before .before .before .before in
+returns c =
+    let b = c .before .before .before .before .before .before in
     let o = b .before .before .before .advance .ensures in
-    record { arena = rw o at (b .apply .ensures); table = rw o at (c .before .before .clear-if .ensures); mv = rw o; answer = rw o }
+    let table = now (b .before .before .before .before .before .before .before .args .table) in
+    record {
+      arena = rw o at (b .apply .ensures);
+      table = c .before .before .clear-if .ensures ∙ ap (λ (x : Moved). clearIf (x .clear) table) o;
+      mv = rw o;
+      answer = rw o;
+    }
 
 pub advance-spec : {M : Type 1} → statement M
 advance-spec =

@@ -1,4 +1,5 @@
--- `turns::client` meets its contract: the code's match picks the step by its name (proofs/Names), and what it changes is stored. Assumes nothing.
+-- `turns::client` meets its contract: the code's match picks the step by its name (proofs/Names), and what it changes is
+-- stored. Assumes nothing.
 use denote.Ref.{now}
 use borrow.Author.Needs.{needs}
 use mathlib.Core.Path.{refl}
@@ -90,7 +91,8 @@ returns-3 : tie.Need-returns-3
 unfolding clientLeft
 returns-3 c = let b = c .before .before .before in
     let m = b .before .before .before .before in
-    let o = rw (m .before .row-at .ensures, b .before .before .wide .ensures, b .before .before .before .entry-of .ensures) at (b .open-hold .ensures) in
+    let w = b .before .before in
+    let o = rw (m .before .row-at .ensures, w .wide .ensures, w .before .entry-of .ensures) at (b .open-hold .ensures) in
     let e = c .before .before .keep-row3 .ensures in
     rw (m .match .keys3) (record { arena = refl; table = rw o at (e .0); answer = rw o at (e .1) })
 
@@ -140,8 +142,10 @@ same-length-10 c = search needs
 returns-7 : tie.Need-returns-7
 unfolding clientLeft
 returns-7 c =
-    let low : 14 ≤ c .before .before .before .before .before .before .before .before .before .before .before .before .before .args .code = omega arith in
-    let high : c .before .before .before .before .before .before .before .before .before .before .before .before .before .args .code < 16 = omega arith in
+    let low : 14 ≤ c .before .before .before .before .before .before .before .before .before .before .before .before .before .args .code =
+    omega arith in
+    let high : c .before .before .before .before .before .before .before .before .before .before .before .before .before .args .code < 16 =
+    omega arith in
     let b = c .before .before .before .before in
     let m = b .before .before .before .before .before in
     let s = m .before .before .before .before .args in
@@ -157,7 +161,8 @@ returns-8 : tie.Need-returns-8
 unfolding clientLeft
 returns-8 c = let n = c .before .match .rest in
     rw
-    (unknown-below (c .before .before .before .before .before .before .args .code) (omega arith) (n .0 .0 .0 .0 .0 .1) (n .0 .0 .0 .0 .1) (n .0 .0 .0 .1) (n .0 .0 .1))
+    (unknown-below (c .before .before .before .before .before .before .args .code) (omega arith)
+    (n .0 .0 .0 .0 .0 .1) (n .0 .0 .0 .0 .1) (n .0 .0 .0 .1) (n .0 .0 .1))
     (record { arena = refl; table = refl; answer = refl })
 
 same-length-12 : tie.Need-same-length-12
@@ -166,7 +171,8 @@ same-length-12 c = search needs
 returns-9 : tie.Need-returns-9
 unfolding clientLeft
 returns-9 c = let n = c .before .before .match .rest in
-    rw (unknown-above (c .before .before .before .before .before .before .before .args .code) (omega arith) (n .0 .1) (n .1)) (record { arena = refl; table = refl; answer = refl })
+    rw (unknown-above (c .before .before .before .before .before .before .before .args .code) (omega arith) (n .0 .1) (n .1))
+    (record { arena = refl; table = refl; answer = refl })
 
 pub client-spec : {M : Type 1} → statement M
 client-spec =

@@ -61,7 +61,9 @@ same-length-5 : tie.Need-same-length-5
 same-length-5 c = search needs
 
 returns-3 : tie.Need-returns-3
-returns-3 c = let b = c .before .before .before .before .before .before .before in rw (b .before .before .match .keys3) (rw (b .begin .ensures) at (c .before .before .before .before .put-kept2 .ensures))
+returns-3 c =
+    let b = c .before .before .before .before .before .before .before in
+    rw (b .before .before .match .keys3) (rw (b .begin .ensures) at (c .before .before .before .before .put-kept2 .ensures))
 
 same-length-6 : tie.Need-same-length-6
 same-length-6 c = search needs
@@ -70,11 +72,14 @@ same-length-7 : tie.Need-same-length-7
 same-length-7 c = search needs
 
 returns-4 : tie.Need-returns-4
-returns-4 c = let b = c .before .before .before .before .before .before .before in rw (b .before .before .match .keys4) (rw (b .close .ensures) at (c .before .before .before .before .put-kept3 .ensures))
+returns-4 c =
+    let b = c .before .before .before .before .before .before .before in
+    rw (b .before .before .match .keys4) (rw (b .close .ensures) at (c .before .before .before .before .put-kept3 .ensures))
 
 returns-5 : tie.Need-returns-5
 returns-5 c = let n = c .match .rest in
-    rw (unknown-keeper (c .before .before .before .args .code) (n .0 .0 .0 .1) (n .0 .0 .1) (n .0 .1) (n .1)) (record { arena = refl; table = refl; result = refl })
+    rw (unknown-keeper (c .before .before .before .args .code) (n .0 .0 .0 .1) (n .0 .0 .1) (n .0 .1) (n .1))
+    (record { arena = refl; table = refl; result = refl })
 
 pub keep-spec : {M : Type 1} → statement M
 keep-spec =

@@ -14,7 +14,9 @@ same-length : tie.Need-same-length
 same-length c = search needs
 
 returns : tie.Need-returns
-returns c = let b = c .before .before .before .before .before .before in (rw (b .put-swaps-at .ensures) at (c .before .before .put-phase-at .ensures), refl)
+returns c =
+    let b = c .before .before .before .before .before .before in
+    (rw (b .put-swaps-at .ensures) at (c .before .before .put-phase-at .ensures), refl)
 
 pub keep-swap-spec : {M : Type 1} → statement M
 keep-swap-spec =

@@ -24,7 +24,9 @@ same-length c = search needs
 
 returns : tie.Need-returns
 unfolding putTold
-returns c = let b = c .before .before .before .before .before .before in rw (b .store .ensures, b .before .before .tell .ensures) at (c .before .before .store2 .ensures)
+returns c =
+    let b = c .before .before .before .before .before .before in
+    rw (b .store .ensures, b .before .before .tell .ensures) at (c .before .before .store2 .ensures)
 
 pub put-answer-spec : {M : Type 1} → statement M
 put-answer-spec =

@@ -7,7 +7,6 @@ use Prim.Native.Nat.{_≤_, _-_}
 use native.Mathlib.Omega.{arith}
 use lib.ListN.{length}
 use Rattle.model.specs.State.{withMove}
-use Rattle.model.specs.declared.Answer.the-variants.{Done}
 use Rattle.turns.specs.Turns.{lent, going, turnsFrom}
 use Rattle.turns.specs.declared.Turned.{Turned}
 use Rattle.turns.proofs.Loop.{step-below, turns-stop, turns-more}
@@ -16,7 +15,8 @@ use Rattle.turns.proofs.turns.Statement.{statement}
 use Rattle.turns.proofs.turns.Tie as tie
 
 abbrev Inv-loop : tie.InvT-loop
-Inv-loop arena₀ table₀ steps slots₀ control₀ last₀ i₀ arena table slots control last i = (turnsFrom steps 0 4096 (going (lent control₀ arena₀ table₀) slots₀ last₀)
+Inv-loop arena₀ table₀ steps slots₀ control₀ last₀ i₀ arena table slots control last i =
+    (turnsFrom steps 0 4096 (going (lent control₀ arena₀ table₀) slots₀ last₀)
     ≡ turnsFrom steps i (4096 - i) (going (lent control arena table) slots last))
     × (i ≤ 4096) × (length arena ≡ length arena₀) × (length table ≡ length table₀) × (length slots ≡ length slots₀)
     × (length (control .dir) ≡ 256)
@@ -49,7 +49,9 @@ put-answer-requires : tie.Need-put-answer-requires Inv-loop μ-loop
 put-answer-requires c κs = search needs
 
 loop-less : tie.Need-loop-less Inv-loop μ-loop
-loop-less c = let n = c .before .before .before .before .before .before .before .before .before .before .before .before .before .before .before .before .before .before in
+loop-less c =
+    let b = c .before .before .before .before .before .before .before .before .before in
+    let n = b .before .before .before .before .before .before .before .before .before in
     omega (arith, step-below _ _ _ (sym (n .before .before .has-step .ensures) ∙ n .before .if1 .taken))
 
 loop-again : tie.Need-loop-again Inv-loop μ-loop
@@ -57,13 +59,15 @@ loop-again c = let b = c .before .before .before .before .before .before .before
     let m = b .before .before .before .before in
     let n = b .before .before .before .before .before .before .before .before .before in
     let l = n .before .before .before .loop in
+    let steps = now (n .before .before .before .before .before .before .before .before .args .steps) in
     let h = sym (n .before .before .has-step .ensures) ∙ n .before .if1 .taken in
     let s = n .numbers-at .ensures in
     let p = m .before .before .all-passed .ensures in
     let q = rw (s, p) at (m .by-move .ensures) in
     let r = rw p at (b .advance .ensures) in (
-      turns-more (now (n .before .before .before .before .before .before .before .before .args .steps)) (l .i) _ (l .control) (l .arena) (l .table) (l .slots) (l .last) (l .inv .0) h
-          (turn-by-move _ _ (rw s at (b .before .before .before .before .before .before .before .before .match .keys1)) (sym q ∙ b .before .before .before .if2 .taken))
+      turns-more steps (l .i) _ (l .control) (l .arena) (l .table) (l .slots) (l .last) (l .inv .0) h
+          (turn-by-move _ _ (rw s at (b .before .before .before .before .before .before .before .before .match .keys1))
+          (sym q ∙ b .before .before .before .if2 .taken))
           (ap (withMove (l .control)) (r .mv)) (r .arena) (r .table) (r .answer) (c .before .before .put-answer .ensures),
       omega (arith, step-below _ _ _ h),
       b .advance .kept .0 ∙ l .inv .2,
@@ -79,7 +83,9 @@ put-answer-requires-2 : tie.Need-put-answer-requires-2 Inv-loop μ-loop
 put-answer-requires-2 c κs = search needs
 
 loop-less-2 : tie.Need-loop-less-2 Inv-loop μ-loop
-loop-less-2 c = let n = c .before .before .before .before .before .before .before .before .before .before .before .before .before .before .before .before .before .before in
+loop-less-2 c =
+    let b = c .before .before .before .before .before .before .before .before .before in
+    let n = b .before .before .before .before .before .before .before .before .before in
     omega (arith, step-below _ _ _ (sym (n .before .before .has-step .ensures) ∙ n .before .if1 .taken))
 
 loop-again-2 : tie.Need-loop-again-2 Inv-loop μ-loop
@@ -88,12 +94,14 @@ loop-again-2 c = let b = c .before .before .before .before .before .before .befo
     let m = b .before .before .before .before in
     let n = b .before .before .before .before .before .before .before .before .before in
     let l = n .before .before .before .loop in
+    let steps = now (n .before .before .before .before .before .before .before .before .args .steps) in
     let h = sym (n .before .before .has-step .ensures) ∙ n .before .if1 .taken in
     let s = n .numbers-at .ensures in
     let q = rw (s, m .before .before .all-passed .ensures) at (m .by-move .ensures) in
     let r = rw s at (b .keep .ensures) in (
-      turns-more (now (n .before .before .before .before .before .before .before .before .args .steps)) (l .i) _ (l .control) (l .arena) (l .table) (l .slots) (l .last) (l .inv .0) h
-          (turn-by-keeper _ _ (rw s at (b .before .before .before .before .before .before .before .before .match .keys1)) (sym q ∙ b .before .before .before .if2 .left))
+      turns-more steps (l .i) _ (l .control) (l .arena) (l .table) (l .slots) (l .last) (l .inv .0) h
+          (turn-by-keeper _ _ (rw s at (b .before .before .before .before .before .before .before .before .match .keys1))
+          (sym q ∙ b .before .before .before .if2 .left))
           (ap (λ (x : Turned). x .control) (r .result)) (r .arena) (r .table) (ap (λ (x : Turned). x .answer) (r .result))
           (c .before .before .put-answer2 .ensures),
       omega (arith, step-below _ _ _ h),
@@ -113,18 +121,22 @@ put-answer-requires-3 : tie.Need-put-answer-requires-3 Inv-loop μ-loop
 put-answer-requires-3 c κs = search needs
 
 loop-less-3 : tie.Need-loop-less-3 Inv-loop μ-loop
-loop-less-3 c = let n = c .before .before .before .before .before .before .before .before .before .before .before .before .before .before .before in
+loop-less-3 c =
+    let b = c .before .before .before .before .before .before .before .before .before in
+    let n = b .before .before .before .before .before .before in
     omega (arith, step-below _ _ _ (sym (n .before .before .has-step .ensures) ∙ n .before .if1 .taken))
 
 loop-again-3 : tie.Need-loop-again-3 Inv-loop μ-loop
 loop-again-3 c = let b = c .before .before .before .before .before .before .before .before in
     let n = b .before .before .before .before .before .before .before in
     let l = n .before .before .before .loop in
+    let steps = now (n .before .before .before .before .before .before .before .before .args .steps) in
     let h = sym (n .before .before .has-step .ensures) ∙ n .before .if1 .taken in
     let s = n .numbers-at .ensures in
     let r = rw s at (b .client .ensures) in (
-      turns-more (now (n .before .before .before .before .before .before .before .before .args .steps)) (l .i) _ (l .control) (l .arena) (l .table) (l .slots) (l .last) (l .inv .0) h
-          (turn-by-client _ _ (rw s at (b .before .before .before .before .before .before .match .rest .1)) (rw s at (b .before .before .before .before .before .if3 .taken)))
+      turns-more steps (l .i) _ (l .control) (l .arena) (l .table) (l .slots) (l .last) (l .inv .0) h
+          (turn-by-client _ _ (rw s at (b .before .before .before .before .before .before .match .rest .1))
+          (rw s at (b .before .before .before .before .before .if3 .taken)))
           refl (r .arena) (r .table) (r .answer) (c .before .before .put-answer3 .ensures),
       omega (arith, step-below _ _ _ h),
       b .client .kept .0 ∙ l .inv .2,
@@ -143,9 +155,10 @@ loop-less-4 c = let n = c .before .before .before .before .before .before in
 loop-again-4 : tie.Need-loop-again-4 Inv-loop μ-loop
 loop-again-4 c = let n = c .before .before .before .before .before .before in
     let l = n .before .before .before .loop in
+    let steps = now (n .before .before .before .before .before .before .before .before .args .steps) in
     let h = sym (n .before .before .has-step .ensures) ∙ n .before .if1 .taken in
     let s = n .numbers-at .ensures in (
-      turns-more (now (n .before .before .before .before .before .before .before .before .args .steps)) (l .i) _ (l .control) (l .arena) (l .table) (l .slots) (l .last) (l .inv .0) h
+      turns-more steps (l .i) _ (l .control) (l .arena) (l .table) (l .slots) (l .last) (l .inv .0) h
           (turn-by-nobody _ _ (rw s at (c .before .before .before .before .if3 .left)))
           refl refl refl refl (c .before .before .put-answer4 .ensures),
       omega (arith, step-below _ _ _ h),

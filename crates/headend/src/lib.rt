@@ -1,0 +1,269 @@
+// The exported form for the C head-end: control record, arena and client table in one buffer of bytes (docs/LAYOUT.md).
+// Decides nothing itself: it decodes, calls the archive, and encodes what an accepted call leaves.
+ghost use mathlib.Core.Path.{_≡_};
+ghost use Prim.Native.Nat.{_*_};
+ghost use lib.ListN.{length};
+ghost use Rattle.model.specs.Records.{laid};
+ghost use Rattle.model.specs.Steps.{step};
+ghost use Rattle.wire.specs.Bytes.{allBytes};
+ghost use Rattle.archive.specs.Does.{meant, isRefused};
+ghost use Rattle.headend.specs.Buffer.{moveIn, controlIn, joined, moveParts, countParts, controlParts, bytesIn, stateIn};
+ghost use Rattle.headend.specs.Exported.{coded, kept, freshBytes, stepBytes, fillResult, auditResult, runBytesFit, runOn, runBytes};
+ghost use Rattle.headend.specs.Exported.{ranBytes, CallGives, RunGives, Finishes};
+use model::Answer;
+use model::Control;
+use model::Move;
+
+// One fixed size in bytes: control record 668, arena 4 × 8,192, table 8 × 48.
+const BUFFER: usize = 33820;
+
+fn move_in(b: &[u8]) -> Move
+    requires { ⌜ length (now b) ≡ 33820 ⌝ }
+    ensures { λ r. ⌜ r ≡ moveIn (now (b .entry)) ⌝ }
+{
+    Move {
+        stage: wire::get4(b, 640),
+        meter: wire::get4(b, 644),
+        from: wire::get2(b, 648),
+        target: wire::get2(b, 650),
+        copied: wire::get4(b, 652),
+    }
+}
+
+fn control_in(b: &[u8]) -> Control
+    requires { ⌜ length (now b) ≡ 33820 ⌝ }
+    ensures { λ r. ⌜ r ≡ controlIn (now (b .entry)) ⌝ }
+{
+    let dir = wire::halves_in(b, 0);
+    let map = wire::longs_in(b, 512);
+    let mv = move_in(b);
+    let begun = wire::get4(b, 656);
+    let committed = wire::get4(b, 660);
+    let aborted = wire::get4(b, 664);
+    Control {
+        dir,
+        map,
+        mv,
+        begun,
+        committed,
+        aborted,
+    }
+}
+
+fn move_out(b: &mut [u8], mv: Move)
+    requires { ⌜ length (now b) ≡ 33820 ⌝ }
+    ensures { λ r. ⌜ now (b .exit) ≡ laid (now (b .entry)) 640 (joined (moveParts mv)) ⌝ }
+{
+    wire::put4(b, 640, mv.stage);
+    wire::put4(b, 644, mv.meter);
+    wire::put2(b, 648, mv.from);
+    wire::put2(b, 650, mv.target);
+    wire::put4(b, 652, mv.copied);
+}
+
+fn counts_out(b: &mut [u8], control: Control)
+    requires { ⌜ length (now b) ≡ 33820 ⌝ }
+    ensures { λ r. ⌜ now (b .exit) ≡ laid (now (b .entry)) 656 (joined (countParts control)) ⌝ }
+{
+    wire::put4(b, 656, control.begun);
+    wire::put4(b, 660, control.committed);
+    wire::put4(b, 664, control.aborted);
+}
+
+fn control_out(b: &mut [u8], control: Control)
+    requires { ⌜ length (now b) ≡ 33820 ⌝ }
+    ensures { λ r. ⌜ now (b .exit) ≡ laid (now (b .entry)) 0 (joined (controlParts control)) ⌝ }
+{
+    let dir = control.dir;
+    let map = control.map;
+    let mv = control.mv;
+    wire::halves_out(b, 0, dir);
+    wire::longs_out(b, 512, map);
+    move_out(b, mv);
+    counts_out(b, control);
+}
+
+// Every byte of the buffer.
+fn state_out(b: &mut [u8], control: Control, arena: &[u32], table: &[u32])
+    requires { ⌜ (length (now b) ≡ 33820) × (length (now arena) ≡ 8192) × (length (now table) ≡ 96) ⌝ }
+    ensures { λ r. ⌜ now (b .exit) ≡ bytesIn control (now (arena .entry)) (now (table .entry)) ⌝ }
+{
+    control_out(b, control);
+    wire::words_out(b, 668, arena);
+    wire::words_out(b, 33436, table);
+}
+
+// What the buffer means: arena and table into words, the control record by value.
+fn state_in(b: &[u8], arena: &mut [u32], table: &mut [u32]) -> Control
+    requires { ⌜ (length (now b) ≡ 33820) × (length (now arena) ≡ 8192) × (length (now table) ≡ 96) ⌝ }
+    ensures { λ r. ⌜ meant r (now (arena .exit)) (now (table .exit)) ≡ stateIn (now (b .entry)) ⌝ }
+{
+    wire::words_in(b, 668, arena);
+    wire::words_in(b, 33436, table);
+    control_in(b)
+}
+
+// Answer and value in one number.
+fn coded(answer: Answer) -> u64
+    ensures { λ r. ⌜ r ≡ coded answer ⌝ }
+{
+    let told = turns::tell(answer);
+    (told.number as u64) * 4294967296 + (told.value as u64)
+}
+
+fn is_refused(answer: Answer) -> bool
+    ensures { λ r. ⌜ r ≡ isRefused answer ⌝ }
+{
+    let told = turns::tell(answer);
+    told.number < 20
+}
+
+// A refused call writes no byte of the buffer.
+fn finish(b: &mut [u8], control: Control, arena: &[u32], table: &[u32], answer: Answer) -> u64
+    requires { ⌜ (length (now b) ≡ 33820) × (length (now arena) ≡ 8192) × (length (now table) ≡ 96) ⌝ }
+    ensures { λ r. ⌜ Finishes r (now (b .exit)) (now (b .entry)) answer
+        (bytesIn control (now (arena .entry)) (now (table .entry))) ⌝ }
+{
+    if is_refused(answer) {
+        return coded(answer);
+    }
+    state_out(b, control, arena, table);
+    coded(answer)
+}
+
+#[no_mangle]
+pub extern "C" fn tangvrak_fresh(buffer: &mut [u8]) -> u64
+    ensures { λ r. ⌜ CallGives r (now (buffer .exit)) (freshBytes (now (buffer .entry))) ⌝ }
+{
+    if buffer.len() != BUFFER {
+        return coded(Answer::Refused(1));
+    }
+    let mut arena = [0u32; 8192];
+    let mut table = [0u32; 96];
+    let was = state_in(buffer, &mut arena, &mut table);
+    let o = archive::fresh(was, &mut arena, &mut table);
+    let control = o.control;
+    let answer = o.answer;
+    finish(buffer, control, &arena, &table, answer)
+}
+
+#[no_mangle]
+pub extern "C" fn tangvrak_step(
+    buffer: &mut [u8],
+    who: u32,
+    code: u32,
+    a: u32,
+    b: u32,
+    v: u32,
+) -> u64
+    ensures { λ r. ⌜ CallGives r (now (buffer .exit)) (stepBytes (now (buffer .entry)) (step who code a b v)) ⌝ }
+{
+    if buffer.len() != BUFFER {
+        return coded(Answer::Refused(1));
+    }
+    let mut arena = [0u32; 8192];
+    let mut table = [0u32; 96];
+    let was = state_in(buffer, &mut arena, &mut table);
+    let o = archive::step(was, &mut arena, &mut table, who, code, a, b, v);
+    let control = o.control;
+    let answer = o.answer;
+    finish(buffer, control, &arena, &table, answer)
+}
+
+#[no_mangle]
+pub extern "C" fn tangvrak_fill(buffer: &[u8]) -> u64
+    ensures { λ r. ⌜ r ≡ fillResult (now (buffer .entry)) ⌝ }
+{
+    if buffer.len() != BUFFER {
+        return coded(Answer::Refused(1));
+    }
+    let mut arena = [0u32; 8192];
+    let mut table = [0u32; 96];
+    let control = state_in(buffer, &mut arena, &mut table);
+    let o = archive::fill(control, &arena, &table);
+    let answer = o.answer;
+    coded(answer)
+}
+
+#[no_mangle]
+pub extern "C" fn tangvrak_audit(buffer: &[u8]) -> u64
+    ensures { λ r. ⌜ r ≡ auditResult (now (buffer .entry)) ⌝ }
+{
+    if buffer.len() != BUFFER {
+        return coded(Answer::Refused(1));
+    }
+    let mut arena = [0u32; 8192];
+    let mut table = [0u32; 96];
+    let control = state_in(buffer, &mut arena, &mut table);
+    let o = archive::audit(control, &arena, &table);
+    let answer = o.answer;
+    coded(answer)
+}
+
+// "1 or 2 refuses the whole run and writes no answers"
+fn slots_out(slots: &mut [u8], answers: &[u32], answer: Answer)
+    requires { ⌜ length (now slots) ≡ 4 * length (now answers) ⌝ }
+    ensures { λ r. ⌜ now (slots .exit) ≡ kept answer (now (slots .entry)) (allBytes 4 (now (answers .entry))) ⌝ }
+{
+    if is_refused(answer) {
+        return;
+    }
+    wire::words_out(slots, 0, answers);
+}
+
+// 20 bytes a step, 8 bytes a slot.
+fn run_fits(steps: usize, slots: usize) -> bool
+    ensures { λ r. ⌜ r ≡ runBytesFit steps slots ⌝ }
+{
+    if 81920 < steps {
+        return false;
+    }
+    if steps % 20 != 0 {
+        return false;
+    }
+    slots == 8 * (steps / 20)
+}
+
+// The run in words: as many of steps and answers as are lent.
+fn run_words(
+    buffer: &mut [u8],
+    steps: &[u8],
+    slots: &mut [u8],
+    words: &mut [u32],
+    answers: &mut [u32],
+) -> u64
+    requires { ⌜ (length (now buffer) ≡ 33820) × (length (now steps) ≡ 4 * length (now words))
+        × (length (now slots) ≡ 4 * length (now answers)) ⌝ }
+    ensures { λ r. ⌜ RunGives r (now (buffer .exit)) (now (slots .exit)) (ranBytes (now (buffer .entry)) (now (slots .entry))
+        (runOn (now (buffer .entry)) (now (steps .entry)) (now (slots .entry)) (length (now (words .entry)))
+        (length (now (answers .entry))))) ⌝ }
+{
+    let mut arena = [0u32; 8192];
+    let mut table = [0u32; 96];
+    let was = state_in(buffer, &mut arena, &mut table);
+    wire::words_in(steps, 0, words);
+    wire::words_in(slots, 0, answers);
+    let o = archive::run(was, &mut arena, &mut table, words, answers);
+    let control = o.control;
+    let answer = o.answer;
+    slots_out(slots, answers, answer);
+    finish(buffer, control, &arena, &table, answer)
+}
+
+#[no_mangle]
+pub extern "C" fn tangvrak_run(buffer: &mut [u8], steps: &[u8], slots: &mut [u8]) -> u64
+    ensures { λ r. ⌜ RunGives r (now (buffer .exit)) (now (slots .exit))
+        (runBytes (now (buffer .entry)) (now (steps .entry)) (now (slots .entry))) ⌝ }
+{
+    if buffer.len() != BUFFER {
+        return coded(Answer::Refused(1));
+    }
+    if !run_fits(steps.len(), slots.len()) {
+        return coded(Answer::Refused(1));
+    }
+    let mut words = [0u32; 20480];
+    let mut answers = [0u32; 8192];
+    let n = steps.len() / 4;
+    let m = slots.len() / 4;
+    run_words(buffer, steps, slots, &mut words[..n], &mut answers[..m])
+}

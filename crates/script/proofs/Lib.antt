@@ -1,0 +1,9 @@
+pub mod Numbers
+pub mod Lines
+pub mod Pages
+pub mod Decimal
+pub mod Accepted
+pub mod Accepts
+pub mod Room
+pub mod Replay
+pub mod Examples

@@ -1,0 +1,5 @@
+pub mod Numbers
+pub mod Lines
+pub mod Printing
+pub mod Texts
+pub mod Replay

@@ -1,0 +1,24 @@
+-- The text of a script, from its numbers: exactly these texts are read as scripts (proofs/Accepted.antt, proofs/Accepts.antt).
+use mathlib.Core.List.{List, [], _∷_, _++_}
+use Prim.Native.Nat.{ℕ, zero, suc}
+use lib.ListN.{take, drop}
+use Rattle.script.specs.Printing.{decimal, line1}
+
+-- "one space between, each line ended by LF"
+unfoldable pub lineRest : List ℕ → List ℕ
+lineRest [] = 10 ∷ []
+lineRest (n ∷ l) = 32 ∷ (decimal n ++ lineRest l)
+
+unfoldable pub lineText : List ℕ → List ℕ
+lineText [] = 10 ∷ []
+lineText (n ∷ l) = decimal n ++ lineRest l
+
+-- lines of w numbers each
+unfoldable pub linesText : ℕ → ℕ → List ℕ → List ℕ
+linesText zero w words = []
+linesText (suc n) w words = lineText (take w words) ++ linesText n w (drop w words)
+
+-- "Two sections, each after its count"
+unfoldable pub scriptText : ℕ → List ℕ → ℕ → List ℕ → List ℕ
+scriptText admissions words steps others =
+    (line1 admissions ++ linesText admissions 2 words) ++ (line1 steps ++ linesText steps 5 others)
