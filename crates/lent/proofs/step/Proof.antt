@@ -1,5 +1,5 @@
--- `lent::step` meets its contract: a walk of its MIR, by hand. The rows are shared for the call of `take_rows`; arena and table are given up
--- to the covered `step_rows` and to `put_rows`. All that the proof knows of the three is that each meets its contract.
+-- `lent::step` meets its contract: a walk of its MIR, by hand. The rows are shared for the call of `take_rows`; arena and table are given
+-- up to the covered `step_rows` and to `put_rows`. All that the proof knows of the three is that each meets its contract.
 -- Assumes nothing.
 use mathlib.Core.Path.{_≡_, refl, ap}
 use Prim.Native.Nat.{ℕ, _<_, _^_}
