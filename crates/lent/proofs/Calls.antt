@@ -1,23 +1,19 @@
 -- Each call, as an outcome of the state: a table that has not eight rows is refused by 1, and eight rows of four holds stay eight rows of
 -- four holds. That is all that the calls over lent rows ask of it.
 -- Assumes nothing.
-use mathlib.Core.Path.{_≡_, refl, sym, ap}
+use mathlib.Core.Path.{_≡_, refl, ap}
 use mathlib.Core.Bool.{true, false, not}
 use mathlib.Core.List.{List, [], _∷_}
 use Prim.Native.Nat.{ℕ}
 use native.Mathlib.Omega.{arith}
-use lib.ListN.{length, replicate}
 use borrow.Author.Tests.{ltb-true, ltb-false}
-use Rattle.model.specs.declared.Answer.{Answer}
 use Rattle.model.specs.declared.Answer.the-variants.{Refused, Done}
-use Rattle.model.specs.Rows.{freshRow}
 use Rattle.model.specs.State.{State}
 use Rattle.model.specs.Answers.{Outcome, outcome, number}
 use Rattle.model.specs.Fresh.{fresh}
 use Rattle.model.specs.Refusals.{_if_}
-use Rattle.model.specs.Steps.{Step, step, act, refused}
+use Rattle.model.specs.Steps.{Step, act, refused}
 use Rattle.model.specs.Calls.{wrongSize, unsound, freshCall, stepCall, fillCall, auditCall, runCall, Ran, ran, oneByOne, stepsOf, runSizes}
-use Rattle.model.proofs.Choice.{by-test}
 use Rattle.model.proofs.Refusals.{unless-refused}
 use Rattle.model.proofs.Answered.{answered}
 use Rattle.table.proofs.FourHolds.{four-fresh}

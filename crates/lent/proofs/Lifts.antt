@@ -7,7 +7,7 @@ use mathlib.Core.List.{List, []}
 use Prim.Native.Nat.{ℕ}
 use lib.Dec.{eqb}
 use lib.ListN.{length}
-use borrow.Author.Tests.{eq-eqb, ne-eqb, eqb-true}
+use borrow.Author.Tests.{eq-eqb, eqb-true}
 use Rattle.model.specs.declared.Row.{Row}
 use Rattle.model.specs.declared.Control.{Control}
 use Rattle.model.specs.Choice.{_and_}
@@ -80,7 +80,8 @@ module _ (c : Control) (a : List ℕ) (e : Eight) (n : ℕ) (eight : n ≡ 8) (f
             (λ h. k .same h ∙ these-rows n e eight) (d' .table);
       }
 
-  pub look-done : (g : State → Outcome) {r : Reply} → LookDoes r (g (meant c a (tableWords (rowsIn e)))) → Looks r (g (state c a (tableOf n e)))
+  pub look-done : (g : State → Outcome) {r : Reply}
+      → LookDoes r (g (meant c a (tableWords (rowsIn e)))) → Looks r (g (state c a (tableOf n e)))
   look-done g d = let d' = rw meant-rows at d in record { answer = d' .answer; control = d' .control }
 
   pub run-done : (ws slots : List ℕ) (f : Eight) {r : Reply} {a' t l : List ℕ}
@@ -98,7 +99,8 @@ pub run-refused : (ws slots : List ℕ) (c : Control) (a : List ℕ) (e : Eight)
 run-refused ws slots c a e n h =
     record {
       leaves = rows-refused (run-is ws slots .tests) c a e n h;
-      slots = sym (ap (λ (r : Ran). r .slots) (run-wrong ws slots (state c a (tableOf n e)) (rw (no-rows n e h) (wrong-length c a [] refl))));
+      slots =
+          sym (ap (λ (r : Ran). r .slots) (run-wrong ws slots (state c a (tableOf n e)) (rw (no-rows n e h) (wrong-length c a [] refl))));
     }
 
 -- the calls on the table

@@ -29,7 +29,8 @@ pub zeros : replicate 96 0 ≡ tableWords (replicate 8 zeroRow)
 unfolding tableWords
 zeros = refl
 
-pub row-stored : (table : List Row) (i : ℕ) (r : Row) {t u : List ℕ} → u ≡ putRow t i r → t ≡ tableWords table → u ≡ tableWords (set table i r)
+pub row-stored : (table : List Row) (i : ℕ) (r : Row) {t u : List ℕ} → u ≡ putRow t i r → t ≡ tableWords table
+    → u ≡ tableWords (set table i r)
 row-stored table i r e f = rw (e, f) (put-row table i r)
 
 -- what a call leaves in the words of eight rows is read as the rows that it leaves

@@ -80,7 +80,8 @@ fn refused(control: Control, rows: Eight) -> Done
 
 // Fresh, on the rows of a table that has n of them.
 fn fresh_rows(control: Control, arena: &mut [u32], n: usize, rows: Eight) -> Done
-    ensures { λ r. ⌜ Does (r .reply) (now (arena .exit)) (tableOf n (r .rows)) (freshCall (state control (now (arena .entry)) (tableOf n rows))) ⌝ }
+    ensures { λ r. ⌜ Does (r .reply) (now (arena .exit)) (tableOf n (r .rows))
+        (freshCall (state control (now (arena .entry)) (tableOf n rows))) ⌝ }
 {
     if n != 8 {
         return refused(control, rows);
@@ -91,8 +92,10 @@ fn fresh_rows(control: Control, arena: &mut [u32], n: usize, rows: Eight) -> Don
     Done { reply, rows: next }
 }
 
+// "Fresh zeroes the arena, empties the directory, map and counts, and leaves eight unattached rows".
 pub fn fresh(control: Control, arena: &mut [u32], table: &mut [Row]) -> Reply
-    ensures { λ r. ⌜ Does r (now (arena .exit)) (now (table .exit)) (freshCall (state control (now (arena .entry)) (now (table .entry)))) ⌝ }
+    ensures { λ r. ⌜ Does r (now (arena .exit)) (now (table .exit))
+        (freshCall (state control (now (arena .entry)) (now (table .entry)))) ⌝ }
 {
     let rows = rows::take_rows(&*table);
     let d = fresh_rows(control, arena, table.len(), rows);
@@ -113,7 +116,8 @@ fn step_rows(
     b: u32,
     v: u32,
 ) -> Done
-    ensures { λ r. ⌜ Does (r .reply) (now (arena .exit)) (tableOf n (r .rows)) (stepCall (state control (now (arena .entry)) (tableOf n rows)) (step who code a b v)) ⌝ }
+    ensures { λ r. ⌜ Does (r .reply) (now (arena .exit)) (tableOf n (r .rows))
+        (stepCall (state control (now (arena .entry)) (tableOf n rows)) (step who code a b v)) ⌝ }
 {
     if n != 8 {
         return refused(control, rows);
@@ -124,6 +128,7 @@ fn step_rows(
     Done { reply, rows: next }
 }
 
+// "A step is five numbers: who, code, a, b, v."
 pub fn step(
     control: Control,
     arena: &mut [u32],
@@ -134,7 +139,8 @@ pub fn step(
     b: u32,
     v: u32,
 ) -> Reply
-    ensures { λ r. ⌜ Does r (now (arena .exit)) (now (table .exit)) (stepCall (state control (now (arena .entry)) (now (table .entry))) (step who code a b v)) ⌝ }
+    ensures { λ r. ⌜ Does r (now (arena .exit)) (now (table .exit))
+        (stepCall (state control (now (arena .entry)) (now (table .entry))) (step who code a b v)) ⌝ }
 {
     let rows = rows::take_rows(&*table);
     let d = step_rows(control, arena, table.len(), rows, who, code, a, b, v);
@@ -152,7 +158,8 @@ fn run_rows(
     steps: &[u32],
     answers: &mut [u32],
 ) -> Done
-    ensures { λ r. ⌜ Runs (r .reply) (now (arena .exit)) (tableOf n (r .rows)) (now (answers .exit)) (runCall (state control (now (arena .entry)) (tableOf n rows)) (now (steps .entry)) (now (answers .entry))) ⌝ }
+    ensures { λ r. ⌜ Runs (r .reply) (now (arena .exit)) (tableOf n (r .rows)) (now (answers .exit))
+        (runCall (state control (now (arena .entry)) (tableOf n rows)) (now (steps .entry)) (now (answers .entry))) ⌝ }
 {
     if n != 8 {
         return refused(control, rows);
@@ -163,6 +170,8 @@ fn run_rows(
     Done { reply, rows: next }
 }
 
+// "A run of up to 4,096 steps (five words each, with a two-word answer slot for each ..) checks soundness once and equals the steps
+// one by one."
 pub fn run(
     control: Control,
     arena: &mut [u32],
@@ -170,7 +179,8 @@ pub fn run(
     steps: &[u32],
     answers: &mut [u32],
 ) -> Reply
-    ensures { λ r. ⌜ Runs r (now (arena .exit)) (now (table .exit)) (now (answers .exit)) (runCall (state control (now (arena .entry)) (now (table .entry))) (now (steps .entry)) (now (answers .entry))) ⌝ }
+    ensures { λ r. ⌜ Runs r (now (arena .exit)) (now (table .exit)) (now (answers .exit))
+        (runCall (state control (now (arena .entry)) (now (table .entry))) (now (steps .entry)) (now (answers .entry))) ⌝ }
 {
     let rows = rows::take_rows(&*table);
     let d = run_rows(control, arena, table.len(), rows, steps, answers);
@@ -191,6 +201,7 @@ fn fill_rows(control: Control, arena: &[u32], n: usize, rows: Eight) -> Reply
     archive::fill(control, arena, &words)
 }
 
+// "Fill is the number of used cells".
 pub fn fill(control: Control, arena: &[u32], table: &[Row]) -> Reply
     ensures { λ r. ⌜ Looks r (fillCall (state control (now (arena .entry)) (now (table .entry)))) ⌝ }
 {
@@ -210,6 +221,7 @@ fn audit_rows(control: Control, arena: &[u32], n: usize, rows: Eight) -> Reply
     archive::audit(control, arena, &words)
 }
 
+// "Audit's value, beside answer 30, is 0 or the number of the first broken rule."
 pub fn audit(control: Control, arena: &[u32], table: &[Row]) -> Reply
     ensures { λ r. ⌜ Looks r (auditCall (state control (now (arena .entry)) (now (table .entry)))) ⌝ }
 {

@@ -1,5 +1,5 @@
--- `lent::audit` meets its contract: a walk of its MIR, by hand. What a `&` owns is had twice: one goes to the callee, beside the lifetime's token,
--- which comes back, and one is kept for the exit. All that the proof knows of `take_rows` and `audit_rows` is that each meets its contract.
+-- `lent::audit` meets its contract: a walk of its MIR, by hand. What a `&` owns is had twice: one goes to the callee, beside the lifetime's
+-- token, which comes back, and one is kept for the exit. Of `take_rows` and `audit_rows` it knows that each meets its contract.
 -- Assumes nothing.
 use mathlib.Core.Path.{_≡_, refl}
 use Prim.Native.Nat.{ℕ, _<_, _^_}

@@ -30,7 +30,9 @@ get-requires-8 c κs = search needs
 
 returns : tie.Need-returns
 returns c =
-    all-read _ (c .before .before .before .before .before .before .before .get .ensures) (c .before .before .before .before .before .before .get2 .ensures) (c .before .before .before .before .before .get3 .ensures) (c .before .before .before .before .get4 .ensures) (c .before .before .before .get5 .ensures) (c .before .before .get6 .ensures) (c .before .get7 .ensures) (c .get8 .ensures)
+    let d = c .before .before .before .before in
+    all-read _ (d .before .before .before .get .ensures) (d .before .before .get2 .ensures) (d .before .get3 .ensures) (d .get4 .ensures)
+    (c .before .before .before .get5 .ensures) (c .before .before .get6 .ensures) (c .before .get7 .ensures) (c .get8 .ensures)
 
 pub rows-of-spec : {M : Type 1} → statement M
 rows-of-spec =

@@ -1,5 +1,5 @@
--- `lent::run` meets its contract: a walk of its MIR, by hand. The rows are shared for the call of `take_rows`; arena, table and answers are given
--- up to the covered `run_rows` and to `put_rows`; of the steps, which are had twice, one goes to `run_rows` and one is kept for the exit.
+-- `lent::run` meets its contract: a walk of its MIR, by hand. The rows are shared for the call of `take_rows`; arena, table and answers are
+-- given up to the covered `run_rows` and to `put_rows`; of the steps, had twice, one goes to `run_rows` and one is kept for the exit.
 -- Assumes nothing.
 use mathlib.Core.Path.{_≡_, refl, ap}
 use Prim.Native.Nat.{ℕ, _<_, _^_}
@@ -39,7 +39,8 @@ use denote.Triple.Statement.{Contract, Triple}
 use denote.Triple.Call.{calls-at}
 use denote.Triple.Clauses.{ensured, lasts, Lasts}
 use denote.Triple.Table.{entered, cited}
-use denote.Triple.Walked.{says, Stays, stay-none, stay-none-slice, gave-slice, walkOf, goes-none, goes-none-slice, goes-gave-slice, Walks, ends-at, walked, walk-meets}
+use denote.Triple.Walked.{says, Stays, stay-none, stay-none-slice, gave-slice}
+use denote.Triple.Walked.{walkOf, goes-none, goes-none-slice, goes-gave-slice, Walks, ends-at, walked, walk-meets}
 use denote.Exit.{yes}
 use Rattle.model.specs.declared.Row.{Row}
 use Rattle.model.specs.declared.Control.{Control}
@@ -354,7 +355,7 @@ module _ {M : Type 1} (𝓤 : URA M) (H : Heap 𝓤) (A : Atoms 𝓤) (W : Given
           land ! (from ! (stop !)) (init ! 29 refl (LL.lawful D.the-type D′.the-laws 𝓤 H A W .typed d _ is₂ .0)) $
           rewrite ! 29 (λ (u : Val). ‵ (fat fullShare D′.mir l7 0 u)) (ap only (LL.tells D.the-type D′.the-laws d _ is₂)) refl $ drop ! $
           split ! $ move ! (1 ∷ []) $ split ! $ move ! (1 ∷ []) $ split ! $ move ! (1 ∷ []) $ drop ! $
-          -- [the tokens of answers, steps, arena; the last lists of answers and arena; what table owns; its token; what steps owns; _18; …]:
+          -- [the tokens of answers, steps, arena; the last lists of answers, arena; what table owns; its token; what steps owns; _18; …]:
           -- the table goes to `put_rows`
           assigns ! (of-opd ! (load ! (from ! (fld ! refl (stop !))) (look-in ! 30 (sub ! 1 refl (whole !))))) (from ! (stop !)) (init !
           28 refl (LL.lawful E.the-type E′.the-laws 𝓤 H A W .typed (d .rows) _ (fields .1 .0) .0)) $
@@ -391,7 +392,7 @@ module _ {M : Type 1} (𝓤 : URA M) (H : Heap 𝓤) (A : Atoms 𝓤) (W : Given
           split ! $ move ! (1 ∷ []) $ peeks ! Nothing (Is Nothing) (shows 𝓤 H A Nothing) z (u₃ ∷ []) (λ is₃.
           land ! (from ! (stop !)) (init ! 13 refl (nothing-lawful 𝓤 H A W .typed z _ is₃ .0)) $ drop ! $
           split ! $ move ! (1 ∷ []) $ drop ! $
-          -- [table's token; its last list; the tokens of answers, steps, arena; the last lists of answers and arena; what steps owns; _18; …]
+          -- [table's token; its last list; the tokens of answers, steps, arena; the last lists of answers, arena; what steps owns; _18; …]
           assigns ! (of-opd ! (load ! (from ! (fld ! refl (stop !))) (look-in ! 30 (sub ! 0 refl (whole !))))) (from ! (stop !)) (init !
           44 refl (LL.lawful Rep.the-type Rep′.the-laws 𝓤 H A W .typed (d .reply) _ (fields .0) .0)) $
           returns ! (look ! 44 refl) $ forget ! 8 refl $ forget ! 10 refl $ forget ! 12 refl $ forget ! 14 refl $ forget ! 16 refl $

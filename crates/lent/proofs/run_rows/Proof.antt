@@ -38,12 +38,14 @@ same-length-2 c = search needs
 
 returns-2 : tie.Need-returns-2
 returns-2 c =
-    let p = c .before .before .before .before .before .before .before .before .before .before .before .before .before .before .before .args in
-    let w = c .before .before .before .before .before .before .before .before .before .before .words-of .ensures in
-    run-done (p .control) _ (p .rows) (p .n) (c .before .before .before .before .before .before .before .before .before .before .before .if1 .left) (w .1) _ _ _
+    let d = c .before .before .before .before .before .before .before .before .before .before in
+    let p = d .before .before .before .before .before .args in
+    let w = d .words-of .ensures in
+    run-done (p .control) _ (p .rows) (p .n) (d .before .if1 .left) (w .1) _ _ _
     (rw (w .0) at (c .before .before .before .before .before .before .run .ensures)) (c .rows-of .ensures)
 
 pub run-rows-spec : {M : Type 1} → statement M
 run-rows-spec =
     tie.close
-    (tie.spec refused-requires returns words-of-requires slice-aggregate-run run-requires rows-of-requires same-length same-length-2 returns-2)
+    (tie.spec refused-requires returns words-of-requires slice-aggregate-run run-requires rows-of-requires same-length
+    same-length-2 returns-2)

@@ -1,5 +1,5 @@
--- `lent::step` meets its contract: a walk of its MIR, by hand. The rows are shared for the call of `take_rows`; arena and table are given up
--- to the covered `step_rows` and to `put_rows`. All that the proof knows of the three is that each meets its contract.
+-- `lent::step` meets its contract: a walk of its MIR, by hand. The rows are shared for the call of `take_rows`; arena and table are given
+-- up to the covered `step_rows` and to `put_rows`. All that the proof knows of the three is that each meets its contract.
 -- Assumes nothing.
 use mathlib.Core.Path.{_≡_, refl, ap}
 use Prim.Native.Nat.{ℕ, _<_, _^_}
@@ -32,14 +32,14 @@ use denote.Ref.{RefT}
 use denote.Slice.{sliceVal, MutSlice, ShrSlice, Room, finally, slice-vals, mut-slice-tells}
 use denote.Steps.{only, owned, peeks, heard, nothing}
 use denote.Struct.Laws as LL
-use denote.Signature.{plain}
+use denote.Signature.{plain, mutSliceOf}
 use denote.Triple.Entry.{onEntry, Vals}
 use denote.Triple.Spec.{Meets, tripleOf}
 use denote.Triple.Statement.{Contract, Triple}
 use denote.Triple.Call.{calls-at}
 use denote.Triple.Clauses.{ensured, lasts, Lasts}
 use denote.Triple.Table.{entered, cited}
-use denote.Triple.Walked.{says, Stays, stay-none, gave-slice, walkOf, goes-none, goes-gave-slice, Walks, ends-at, walked, walk-meets}
+use denote.Triple.Walked.{says, Stay, Stays, stay-none, gave-slice, walkOf, goes-none, goes-gave-slice, Walks, ends-at, walked, walk-meets}
 use denote.Exit.{yes}
 use Rattle.model.specs.declared.Row.{Row}
 use Rattle.model.specs.declared.Control.{Control}
@@ -80,33 +80,21 @@ use Rattle.lent.proofs.step as entry
 use Rattle.lent.proofs.step.Statement as stated
 use Rattle.lent.proofs.step.Code as code
 
+-- what is had of each parameter at exit
+abbrev control : Stay {n = 2} (plain (λ _. Ctl.the-row)) yes
+control = stay-none (λ _. Ctl.the-row) yes
+
+abbrev arena : Stay {n = 2} (mutSliceOf (0 ∷ []) tt (plain (λ _. u32))) yes
+arena = gave-slice (0 ∷ []) tt (plain (λ _. u32))
+
+abbrev table : Stay {n = 2} (mutSliceOf (1 ∷ []) tt (plain (λ _. R))) yes
+table = gave-slice (1 ∷ []) tt (plain (λ _. R))
+
+abbrev number : Stay {n = 2} (plain (λ _. u32)) yes
+number = stay-none (λ _. u32) yes
+
 abbrev stayed : Stays (entry.ended .signature .params) (entry.ended .kept)
-stayed = (
-  stay-none (λ _. Ctl.the-row) yes,
-  (
-    gave-slice (0 ∷ []) tt (plain (λ _. u32)),
-    (
-      gave-slice (1 ∷ []) tt (plain (λ _. R)),
-      (
-        stay-none (λ _. u32) yes,
-        (
-          stay-none (λ _. u32) yes,
-          (
-            stay-none (λ _. u32) yes,
-            (
-              stay-none (λ _. u32) yes,
-              (
-                stay-none (λ _. u32)
-                    yes,
-                tt,
-              ),
-            ),
-          ),
-        ),
-      ),
-    ),
-  ),
-)
+stayed = (control, (arena, (table, (number, (number, (number, (number, (number, tt))))))))
 
 module _ {M : Type 1} (𝓤 : URA M) (H : Heap 𝓤) (A : Atoms 𝓤) (mem : Memory → SProp 𝓤) (run : Routine → Fun 𝓤) where
   -- the contracts that the proof cites
@@ -144,35 +132,14 @@ module _ {M : Type 1} (𝓤 : URA M) (H : Heap 𝓤) (A : Atoms 𝓤) (W : Given
   abbrev yv : Val
   yv = sliceVal (b₁, o₁) (length ys)
 
+  abbrev n32 : ℕ → List Val
+  n32 n = vint w32 n ∷ []
+
   abbrev given : (Control × (RefT (List ℕ) × (RefT (List Row) × (ℕ × (ℕ × (ℕ × (ℕ × (ℕ × Unit {0}))))))))
   given = (c, (x γ₀ ws, (y γ₁ ys, (who, (op, (a, (b, (v, tt))))))))
 
   abbrev at : Vals entry.signature (κ₀, (κ₁, tt))
-  at = (
-    cv ∷ [],
-    (
-      xv ∷ [],
-      (
-        yv ∷ [],
-        (
-          vint w32 who ∷ [],
-          (
-            vint w32 op ∷ [],
-            (
-              vint w32 a ∷ [],
-              (
-                vint w32 b ∷ [],
-                (
-                  vint w32 v ∷ [],
-                  tt,
-                ),
-              ),
-            ),
-          ),
-        ),
-      ),
-    ),
-  )
+  at = (cv ∷ [], (xv ∷ [], (yv ∷ [], (n32 who, (n32 op, (n32 a, (n32 b, (n32 v, tt))))))))
 
   abbrev Post : Val → SProp 𝓤
   Post = walkOf 𝓤 H A entry.ended stayed (entry.clauses 𝓤 H A mem run) .post (((κ₀, (κ₁, tt)), (q₀, (q₁, tt)), tt, given, at), tt)
@@ -187,10 +154,7 @@ module _ {M : Type 1} (𝓤 : URA M) (H : Heap 𝓤) (A : Atoms 𝓤) (W : Given
         tt,
         (
           len₀,
-          (
-            len₁,
-            (tt, (tt, (tt, (tt, (tt, tt))))),
-          ),
+          (len₁, (tt, (tt, (tt, (tt, (tt, tt)))))),
         ),
       )) $ says ! does $
       nothing ! $ move ! (3 ∷ 0 ∷ []) $ join ! $ move ! (1 ∷ 0 ∷ []) $ join ! $ frame ! $
@@ -208,55 +172,25 @@ module _ {M : Type 1} (𝓤 : URA M) (H : Heap 𝓤) (A : Atoms 𝓤) (W : Given
   to-take ν δ = (((ν ∷ [], tt), (fullShare, tt), tt, (y δ ys, tt), (yv ∷ [], tt)), tt)
 
   goes-take : (ν : ℕ) (δ : GName)
-      → ent 𝓤 (sep 𝓤 (A .lft (ν ∷ []) fullShare) (sem 𝓤 H A (ShrSlice (named 0) (ν ∷ []) R .own (y δ ys) (yv ∷ [])))) (Take 𝓤 H A mem
-      run .pre (to-take ν δ))
+      → ent 𝓤 (sep 𝓤 (A .lft (ν ∷ []) fullShare) (sem 𝓤 H A (ShrSlice (named 0) (ν ∷ []) R .own (y δ ys) (yv ∷ []))))
+      (Take 𝓤 H A mem run .pre (to-take ν δ))
   goes-take ν δ =
       qed W (‵ (flft (ν ∷ []) fullShare) ∷ ‵ (ShrSlice (named 0) (ν ∷ []) R .own (y δ ys) (yv ∷ [])) ∷ []) ∵
       nothing ! $ move ! (2 ∷ 0 ∷ []) $ fjoin ! $ nothing ! $ move ! (2 ∷ 0 ∷ []) $ join ! $ join ! $ frame ! $ done !
 
+  abbrev args : Eight → (Control × (RefT (List ℕ) × (ℕ × (Eight × (ℕ × (ℕ × (ℕ × (ℕ × (ℕ × Unit {0})))))))))
+  args e = (c, (x γ₀ ws, (length ys, (e, (who, (op, (a, (b, (v, tt)))))))))
+
+  abbrev arg-vals : Val → (List Val × (List Val × (List Val × (List Val × (List Val × (List Val × (List Val × (List Val ×
+      (List Val × Unit {0})))))))))
+  arg-vals u = (cv ∷ [], (xv ∷ [], (vint w64 (length ys) ∷ [], (u ∷ [], (n32 who, (n32 op, (n32 a, (n32 b, (n32 v, tt)))))))))
+
   abbrev to-core : Eight → Val → Core 𝓤 H A mem run .Ghost
-  to-core e u = (
-    (
-      (κ₀, tt),
-      (q₀, tt),
-      tt,
-      (c, (x γ₀ ws, (length ys, (e, (who, (op, (a, (b, (v, tt))))))))),
-      (
-        cv ∷ [],
-        (
-          xv ∷ [],
-          (
-            vint
-                w64 (length ys) ∷ [],
-            (
-              u ∷ [],
-              (
-                vint w32 who ∷ [],
-                (
-                  vint w32 op ∷ [],
-                  (
-                    vint w32 a ∷ [],
-                    (
-                      vint w32 b ∷ [],
-                      (
-                        vint w32 v ∷ [],
-                        tt,
-                      ),
-                    ),
-                  ),
-                ),
-              ),
-            ),
-          ),
-        ),
-      ),
-    ),
-    tt,
-  )
+  to-core e u = (((κ₀, tt), (q₀, tt), tt, args e, arg-vals u), tt)
 
   goes-core : (e : Eight) (u : Val) → Is E.the-row e (u ∷ []) → length ys < 2 ^ 64
-      → ent 𝓤 (sep 𝓤 (sem 𝓤 H A (MutSlice (named 0) κ₀ u32 .own (x γ₀ ws) (xv ∷ []))) (A .lft κ₀ q₀)) (Core 𝓤 H A mem run .pre (to-core
-      e u))
+      → ent 𝓤 (sep 𝓤 (sem 𝓤 H A (MutSlice (named 0) κ₀ u32 .own (x γ₀ ws) (xv ∷ []))) (A .lft κ₀ q₀)) (Core 𝓤 H A mem run .pre
+      (to-core e u))
   goes-core e u is n-fits =
       qed W (‵ (MutSlice (named 0) κ₀ u32 .own (x γ₀ ws) (xv ∷ [])) ∷ ‵ (flft κ₀ q₀) ∷ []) ∵
       nothing ! $ owned ! u32 (Is u32) (uint-makes 𝓤 H A W w32) v _ (refl, v-fits) $ fjoin ! $
@@ -280,171 +214,136 @@ module _ {M : Type 1} (𝓤 : URA M) (H : Heap 𝓤) (A : Atoms 𝓤) (W : Given
       move ! (1 ∷ 0 ∷ []) $ fjoin ! $ nothing ! $ move ! (2 ∷ 0 ∷ []) $ join ! $ join ! $ frame ! $ done !
 
   module _ (C : Calls 𝓤 H) (Λ : Loops 𝓤 H) (fm : FmC 𝓤 H (W .laws) C) (known-take : Triple 𝓤 (C #rows·take-rows) (Take 𝓤 H A mem run))
-      (known-core : Triple 𝓤 (C #lent·step-rows) (Core 𝓤 H A mem run)) (known-put : Triple 𝓤 (C #rows·put-rows) (Put 𝓤 H A mem run))
-    where
-      walk : Room u32 (length ws) → Room R (length ys)
-          → ent 𝓤 (onEntry 𝓤 H A entry.signature (κ₀, (κ₁, tt)) (q₀, (q₁, tt)) given at)
-          (WpFn 𝓤 H C Λ code.function (cv ∷ xv ∷ yv ∷ vint w32 who ∷ vint w32 op ∷ vint w32 a ∷ vint w32 b ∷ vint w32 v ∷ []) Post)
-      walk gm gn =
-          qed W ((‵ (flft κ₀ q₀) ⊛ (‵ (flft κ₁ q₁) ⊛ ‵ ftrue))
-          ∷ ‵ (owns (Ctl.the-row ∷ MutSlice (named 0) κ₀ u32 ∷ MutSlice (named 1) κ₁ R ∷ u32 ∷ u32 ∷ u32 ∷ u32 ∷ u32 ∷ []) given at) ∷
-          []) ∵
-          enter ! C Λ code.function (cv ∷ xv ∷ yv ∷ vint w32 who ∷ vint w32 op ∷ vint w32 a ∷ vint w32 b ∷ vint w32 v ∷ []) _ $
-          alloc1 ! (λ l0. alloc1 ! (λ l1. alloc1 ! (λ l2. alloc1 ! (λ l3. alloc1 ! (λ l4. alloc1 ! (λ l5. alloc1 ! (λ l6. alloc1 ! (λ l7.
-          alloc1 ! (λ l8. alloc1 ! (λ l9. alloc1 ! (λ l10. alloc1 ! (λ l11. alloc1 ! (λ l12. alloc1 ! (λ l13. alloc1 ! (λ l14. alloc1 !
-          (λ l15. alloc1 ! (λ l16. alloc1 ! (λ l17. alloc1 ! (λ l18. alloc1 ! (λ l19. alloc0 ! $
-          params1 ! $ pass1 ! (init ! 36 refl (LL.lawful Ctl.the-type Ctl′.the-laws 𝓤 H A W .typed c _ is-control .0)) $
-          pass1 ! (init ! 34 refl (tt, (tt, (record { fits = gm .0 }, tt)))) $
-          pass1 ! (init ! 32 refl (tt, (tt, (record { fits = gn .0 }, tt)))) $
-          pass1 ! (init ! 30 refl (tt, record { fits = who-fits })) $ pass1 ! (init ! 28 refl (tt, record { fits = op-fits })) $
-          pass1 ! (init ! 26 refl (tt, record { fits = a-fits })) $ pass1 ! (init ! 24 refl (tt, record { fits = b-fits })) $
-          pass1 ! (init ! 22 refl (tt, record { fits = v-fits })) $ pass0 ! $
-          -- local j stands at 38 - 2 j; then the tokens, and what the parameters own. What numbers and structs own is made anew
-          move ! (41 ∷ []) $ fsplit ! $ drop ! $ fsplit ! $ move ! (1 ∷ []) $ fsplit ! $ move ! (1 ∷ []) $ drop ! $
-          move ! (42 ∷ []) $ split ! $ move ! (1 ∷ []) $ split ! $ move ! (1 ∷ []) $ drop ! $ move ! (2 ∷ 0 ∷ 3 ∷ 1 ∷ []) $
-          -- [what table owns; its token; what arena owns; its token; _19; …]: the rows are shared for a lifetime ν of the call of `take_rows`
-          assigns ! (addr ! (from ! (fld ! refl (hop ! (look-in ! 36 (sub ! 0 refl (whole !))) (stop !))))) (from ! (stop !)) (init ! 18
-          refl (tt, tt)) $
-          assigns ! (agg ! (and-then ! (load ! (from ! (stop !)) (look ! 18 refl)) (and-then ! (load ! (from ! (fld ! refl (stop !)))
-          (look-in ! 36 (sub ! 1 refl (whole !)))) (no-more !)))) (from ! (stop !)) (init ! 16 refl (
+      (known-core : Triple 𝓤 (C #lent·step-rows) (Core 𝓤 H A mem run)) (known-put : Triple 𝓤 (C #rows·put-rows)
+      (Put 𝓤 H A mem run)) where
+    walk : Room u32 (length ws) → Room R (length ys)
+        → ent 𝓤 (onEntry 𝓤 H A entry.signature (κ₀, (κ₁, tt)) (q₀, (q₁, tt)) given at)
+        (WpFn 𝓤 H C Λ code.function (cv ∷ xv ∷ yv ∷ vint w32 who ∷ vint w32 op ∷ vint w32 a ∷ vint w32 b ∷ vint w32 v ∷ []) Post)
+    walk gm gn =
+        qed W ((‵ (flft κ₀ q₀) ⊛ (‵ (flft κ₁ q₁) ⊛ ‵ ftrue))
+        ∷ ‵ (owns (Ctl.the-row ∷ MutSlice (named 0) κ₀ u32 ∷ MutSlice
+        (named 1) κ₁ R ∷ u32 ∷ u32 ∷ u32 ∷ u32 ∷ u32 ∷ []) given at) ∷ []) ∵
+        enter ! C Λ code.function (cv ∷ xv ∷ yv ∷ vint w32 who ∷ vint w32 op ∷ vint w32 a ∷ vint w32 b ∷ vint w32 v ∷ []) _ $
+        alloc1 ! (λ l0. alloc1 ! (λ l1. alloc1 ! (λ l2. alloc1 ! (λ l3. alloc1 ! (λ l4. alloc1 ! (λ l5. alloc1 ! (λ l6.
+        alloc1 ! (λ l7. alloc1 ! (λ l8. alloc1 ! (λ l9. alloc1 ! (λ l10. alloc1 ! (λ l11. alloc1 ! (λ l12. alloc1 ! (λ l13.
+        alloc1 ! (λ l14. alloc1 ! (λ l15. alloc1 ! (λ l16. alloc1 ! (λ l17. alloc1 ! (λ l18. alloc1 ! (λ l19. alloc0 ! $
+        params1 ! $ pass1 ! (init ! 36 refl (LL.lawful Ctl.the-type Ctl′.the-laws 𝓤 H A W .typed c _ is-control .0)) $
+        pass1 ! (init ! 34 refl (tt, (tt, (record { fits = gm .0 }, tt)))) $
+        pass1 ! (init ! 32 refl (tt, (tt, (record { fits = gn .0 }, tt)))) $
+        pass1 ! (init ! 30 refl (tt, record { fits = who-fits })) $ pass1 ! (init ! 28 refl (tt, record { fits = op-fits })) $
+        pass1 ! (init ! 26 refl (tt, record { fits = a-fits })) $ pass1 ! (init ! 24 refl (tt, record { fits = b-fits })) $
+        pass1 ! (init ! 22 refl (tt, record { fits = v-fits })) $ pass0 ! $
+        -- local j stands at 38 - 2 j; then the tokens, and what the parameters own. What numbers and structs own is made anew
+        move ! (41 ∷ []) $ fsplit ! $ drop ! $ fsplit ! $ move ! (1 ∷ []) $ fsplit ! $ move ! (1 ∷ []) $ drop ! $
+        move ! (42 ∷ []) $ split ! $ move ! (1 ∷ []) $ split ! $ move ! (1 ∷ []) $ drop ! $ move ! (2 ∷ 0 ∷ 3 ∷ 1 ∷ []) $
+        -- [what table owns; its token; what arena owns; its token; _19; …]: the rows are shared for a lifetime ν of the call of `take_rows`
+        assigns ! (addr ! (from ! (fld ! refl (hop ! (look-in ! 36 (sub ! 0 refl (whole !))) (stop !))))) (from ! (stop !))
+        (init ! 18 refl (tt, tt)) $
+        assigns ! (agg ! (and-then ! (load ! (from ! (stop !)) (look ! 18 refl)) (and-then ! (load ! (from ! (fld ! refl (stop !)))
+        (look-in ! 36 (sub ! 1 refl (whole !)))) (no-more !)))) (from ! (stop !)) (init ! 16 refl (
+          tt,
+          (
             tt,
-            (
-              tt,
-              (
-                record { fits = gn .0 },
-                tt,
-              ),
-            ),
-          )) $
-          lft-new ! tt (λ ν. move ! (1 ∷ 2 ∷ []) $
-          use2 W (later (some (λ (δ : GName). ‵ (ShrSlice (named 0) (ν ∷ []) R .own (y δ ys) (yv ∷ []))
-          ⊛ ‵ (Shared R κ₁ (ν ∷ []) q₁ γ₁ b₁ o₁ ys)))) (shares-out R κ₁ (ν ∷ []) q₁ γ₁ b₁ o₁ 𝓤 H A W (named 1) (named 0) ys) $
-          await ! tt $
-          pick ! (λ δ. split ! $ move ! (2 ∷ 0 ∷ []) $ use2 W (raw (Take 𝓤 H A mem run .pre (to-take ν δ))) (goes-take ν δ) $
-          calls-at ! fm (Take 𝓤 H A mem run) known-take (to-take ν δ) (and-then ! (load ! (from ! (stop !)) (look ! 16 refl)) (no-more
-          !)) (λ u.
-          use1 W (later (some (λ (e : Eight). ((‵ (flft (ν ∷ []) fullShare) ⊛ ‵ ftrue) ⊛ ‵ (E.the-row .own e (u ∷ [])))
-          ⊛ raw (ensured 𝓤 H A take-rows.ended (take-rows.clauses 𝓤 H A mem run) (ν ∷ [], tt) (y δ ys, tt) tt e)))) (id⊢ 𝓤 _) $
-          await ! tt $
-          pick ! (λ e. split ! $ move ! (1 ∷ []) $
-          use1 W (raw (fact 𝓤 (e ≡ taken ys))) (taken-of 𝓤 H A mem run (ν ∷ [], tt) (y δ ys) e) $ heard ! (e ≡ taken ys) (λ e₁.
-          split ! $ move ! (1 ∷ []) $ peeks ! E.the-row (Is E.the-row) (shows 𝓤 H A E.the-row) e (u ∷ []) (λ is₁.
-          land ! (from ! (stop !)) (init ! 25 refl (LL.lawful E.the-type E′.the-laws 𝓤 H A W .typed e _ is₁ .0)) $ drop ! $
-          split ! $ lft-end ! tt $ move ! (0 ∷ 2 ∷ []) $
-          use2 W (later (‵ (MutSlice (named 1) κ₁ R .own (y γ₁ ys) (yv ∷ [])) ⊛ ‵ (flft κ₁ q₁)))
-          (shares-back R κ₁ (ν ∷ []) q₁ γ₁ b₁ o₁ 𝓤 H A W (named 1) (named 0) ys gn) $ await ! tt $ split ! $ move ! (2 ∷ []) $ drop ! $
-          -- [what table owns; its token; what arena owns; its token; _19; …]: the arena goes to `step_rows`
-          assigns ! (addr ! (from ! (fld ! refl (hop ! (look-in ! 38 (sub ! 0 refl (whole !))) (stop !))))) (from ! (stop !)) (init ! 14
-          refl (tt, tt)) $
-          assigns ! (agg ! (and-then ! (load ! (from ! (stop !)) (look ! 14 refl)) (and-then ! (load ! (from ! (fld ! refl (stop !)))
-          (look-in ! 38 (sub ! 1 refl (whole !)))) (no-more !)))) (from ! (stop !)) (init ! 12 refl (
+            (record { fits = gn .0 }, tt),
+          ),
+        )) $
+        lft-new ! tt (λ ν. move ! (1 ∷ 2 ∷ []) $
+        use2 W (later (some (λ (δ : GName). ‵ (ShrSlice (named 0) (ν ∷ []) R .own (y δ ys) (yv ∷ []))
+        ⊛ ‵ (Shared R κ₁ (ν ∷ []) q₁ γ₁ b₁ o₁ ys)))) (shares-out R κ₁ (ν ∷ []) q₁ γ₁ b₁ o₁ 𝓤 H A W (named 1) (named 0) ys) $
+        await ! tt $
+        pick ! (λ δ. split ! $ move ! (2 ∷ 0 ∷ []) $ use2 W (raw (Take 𝓤 H A mem run .pre (to-take ν δ))) (goes-take ν δ) $
+        calls-at ! fm (Take 𝓤 H A mem run) known-take (to-take ν δ) (and-then ! (load ! (from ! (stop !)) (look ! 16 refl))
+        (no-more !)) (λ u.
+        use1 W (later (some (λ (e : Eight). ((‵ (flft (ν ∷ []) fullShare) ⊛ ‵ ftrue) ⊛ ‵ (E.the-row .own e (u ∷ [])))
+        ⊛ raw (ensured 𝓤 H A take-rows.ended (take-rows.clauses 𝓤 H A mem run) (ν ∷ [], tt) (y δ ys, tt) tt e)))) (id⊢ 𝓤 _) $
+        await ! tt $
+        pick ! (λ e. split ! $ move ! (1 ∷ []) $
+        use1 W (raw (fact 𝓤 (e ≡ taken ys))) (taken-of 𝓤 H A mem run (ν ∷ [], tt) (y δ ys) e) $ heard ! (e ≡ taken ys) (λ e₁.
+        split ! $ move ! (1 ∷ []) $ peeks ! E.the-row (Is E.the-row) (shows 𝓤 H A E.the-row) e (u ∷ []) (λ is₁.
+        land ! (from ! (stop !)) (init ! 25 refl (LL.lawful E.the-type E′.the-laws 𝓤 H A W .typed e _ is₁ .0)) $ drop ! $
+        split ! $ lft-end ! tt $ move ! (0 ∷ 2 ∷ []) $
+        use2 W (later (‵ (MutSlice (named 1) κ₁ R .own (y γ₁ ys) (yv ∷ [])) ⊛ ‵ (flft κ₁ q₁)))
+        (shares-back R κ₁ (ν ∷ []) q₁ γ₁ b₁ o₁ 𝓤 H A W (named 1) (named 0) ys gn) $ await ! tt $ split ! $ move ! (2 ∷ []) $ drop ! $
+        -- [what table owns; its token; what arena owns; its token; _19; …]: the arena goes to `step_rows`
+        assigns ! (addr ! (from ! (fld ! refl (hop ! (look-in ! 38 (sub ! 0 refl (whole !))) (stop !))))) (from ! (stop !))
+        (init ! 14 refl (tt, tt)) $
+        assigns ! (agg ! (and-then ! (load ! (from ! (stop !)) (look ! 14 refl)) (and-then ! (load ! (from ! (fld ! refl (stop !)))
+        (look-in ! 38 (sub ! 1 refl (whole !)))) (no-more !)))) (from ! (stop !)) (init ! 12 refl (
+          tt,
+          (
             tt,
-            (
-              tt,
-              (
-                record { fits = gm .0 },
-                tt,
-              ),
-            ),
-          )) $
-          assigns ! (of-opd ! (load ! (from ! (fld ! refl (stop !))) (look-in ! 36 (sub ! 1 refl (whole !))))) (from ! (stop !)) (init !
-          10 refl (tt, record { fits = gn .0 })) $
-          move ! (2 ∷ 3 ∷ []) $ use2 W (raw (Core 𝓤 H A mem run .pre (to-core e u))) (goes-core e u is₁ (gn .0)) $
-          calls-at ! fm (Core 𝓤 H A mem run) known-core (to-core e u) (and-then ! (load ! (from ! (stop !)) (look ! 39 refl)) (and-then !
-          (load ! (from ! (stop !)) (look ! 11 refl)) (and-then ! (load ! (from ! (stop !)) (look ! 9 refl)) (and-then ! (load ! (from !
-          (stop !)) (look ! 23 refl)) (and-then ! (load ! (from ! (stop !)) (look ! 33 refl)) (and-then ! (load ! (from ! (stop !)) (look
-          ! 31 refl)) (and-then ! (load ! (from ! (stop !)) (look ! 29 refl)) (and-then ! (load ! (from ! (stop !)) (look ! 27 refl))
-          (and-then ! (load ! (from ! (stop !)) (look ! 25 refl)) (no-more !)))))))))) (λ u₂.
-          use1 W (later (some (λ (d : Done). ((‵ (flft κ₀ q₀) ⊛ ‵ ftrue) ⊛ ‵ (D.the-row .own d (u₂ ∷ [])))
-          ⊛ raw (ensured 𝓤 H A step-rows.ended (step-rows.clauses 𝓤 H A mem run) (κ₀, tt) (
-            c,
-            (
-              x γ₀ ws,
-              (
-                length ys,
-                (
-                  e,
-                  (
-                    who,
-                    (
-                      op,
-                      (
-                        a,
-                        (b, (v, tt)),
-                      ),
-                    ),
-                  ),
-                ),
-              ),
-            ),
-          ) tt d)))) (id⊢ 𝓤 _) $ await ! tt $
-          pick ! (λ d. split ! $ move ! (1 ∷ []) $
-          use1 W (some (λ (zs : Lasts step-rows.ended (κ₀, tt) (c, (x γ₀ ws, (length ys, (e, (who, (op, (a, (b, (v, tt)))))))))). ‵
-          (lasts step-rows.ended (κ₀, tt) (c, (x γ₀ ws, (length ys, (e, (who, (op, (a, (b, (v, tt))))))))) zs)
-          ⊛ raw (fact 𝓤 (Does (d .reply) (zs .1 .0) (tableOf (length ys) (d .rows)) (stepCall (state c ws (tableOf (length ys) e)) (step
-          who op a b v)))))) (id⊢ 𝓤 _) $
-          pick ! (λ zs. split ! $ move ! (1 ∷ []) $
-          heard ! (Does (d .reply) (zs .1 .0) (tableOf (length ys) (d .rows)) (stepCall (state c ws (tableOf (length ys) e)) (step who op
-          a b v))) (λ e₂.
-          fsplit ! $ drop ! $ fsplit ! $ fsplit ! $ move ! (1 ∷ []) $ feqL ! (λ len₀. move ! (1 ∷ []) $ drop ! $ move ! (1 ∷ []) $
-          split ! $ move ! (1 ∷ []) $ peeks ! D.the-row (Is D.the-row) (shows 𝓤 H A D.the-row) d (u₂ ∷ []) (λ is₂.
-          let fields = LL.owed D.the-type D′.the-laws d _ is₂ in
-          land ! (from ! (stop !)) (init ! 23 refl (LL.lawful D.the-type D′.the-laws 𝓤 H A W .typed d _ is₂ .0)) $
-          rewrite ! 23 (λ (u : Val). ‵ (fat fullShare D′.mir l10 0 u)) (ap only (LL.tells D.the-type D′.the-laws d _ is₂)) refl $ drop ! $
-          split ! $ move ! (1 ∷ []) $ drop ! $
-          -- [arena's token; its last list; what table owns; its token; _19; …]: the table goes to `put_rows`
-          assigns ! (of-opd ! (load ! (from ! (fld ! refl (stop !))) (look-in ! 22 (sub ! 1 refl (whole !))))) (from ! (stop !)) (init !
-          20 refl (LL.lawful E.the-type E′.the-laws 𝓤 H A W .typed (d .rows) _ (fields .1 .0) .0)) $
-          assigns ! (addr ! (from ! (fld ! refl (hop ! (look-in ! 36 (sub ! 0 refl (whole !))) (stop !))))) (from ! (stop !)) (init ! 6
-          refl (tt, tt)) $
-          assigns ! (agg ! (and-then ! (load ! (from ! (stop !)) (look ! 6 refl)) (and-then ! (load ! (from ! (fld ! refl (stop !)))
-          (look-in ! 36 (sub ! 1 refl (whole !)))) (no-more !)))) (from ! (stop !)) (init ! 4 refl (
+            (record { fits = gm .0 }, tt),
+          ),
+        )) $
+        assigns ! (of-opd ! (load ! (from ! (fld ! refl (stop !))) (look-in ! 36 (sub ! 1 refl (whole !))))) (from ! (stop !))
+        (init ! 10 refl (tt, record { fits = gn .0 })) $
+        move ! (2 ∷ 3 ∷ []) $ use2 W (raw (Core 𝓤 H A mem run .pre (to-core e u))) (goes-core e u is₁ (gn .0)) $
+        calls-at ! fm (Core 𝓤 H A mem run) known-core (to-core e u) (and-then ! (load ! (from ! (stop !)) (look ! 39 refl))
+        (and-then ! (load ! (from ! (stop !)) (look ! 11 refl)) (and-then ! (load ! (from ! (stop !)) (look ! 9 refl)) (and-then !
+        (load ! (from ! (stop !)) (look ! 23 refl)) (and-then ! (load ! (from ! (stop !)) (look ! 33 refl)) (and-then ! (load !
+        (from ! (stop !)) (look ! 31 refl)) (and-then ! (load ! (from ! (stop !)) (look ! 29 refl)) (and-then ! (load ! (from !
+        (stop !)) (look ! 27 refl)) (and-then ! (load ! (from ! (stop !)) (look ! 25 refl)) (no-more !)))))))))) (λ u₂.
+        use1 W (later (some (λ (d : Done). ((‵ (flft κ₀ q₀) ⊛ ‵ ftrue) ⊛ ‵ (D.the-row .own d (u₂ ∷ [])))
+        ⊛ raw (ensured 𝓤 H A step-rows.ended (step-rows.clauses 𝓤 H A mem run) (κ₀, tt) (args e) tt d)))) (id⊢ 𝓤 _) $ await ! tt $
+        pick ! (λ d. split ! $ move ! (1 ∷ []) $
+        use1 W (some (λ (zs : Lasts step-rows.ended (κ₀, tt) (args e)). ‵ (lasts step-rows.ended (κ₀, tt) (args e) zs)
+        ⊛ raw (fact 𝓤 (Does (d .reply) (zs .1 .0) (tableOf (length ys) (d .rows)) (stepCall (state c ws (tableOf (length ys) e))
+        (step who op a b v)))))) (id⊢ 𝓤 _) $
+        pick ! (λ zs. split ! $ move ! (1 ∷ []) $
+        heard ! (Does (d .reply) (zs .1 .0) (tableOf (length ys) (d .rows)) (stepCall (state c ws (tableOf (length ys) e))
+        (step who op a b v))) (λ e₂.
+        fsplit ! $ drop ! $ fsplit ! $ fsplit ! $ move ! (1 ∷ []) $ feqL ! (λ len₀. move ! (1 ∷ []) $ drop ! $ move ! (1 ∷ []) $
+        split ! $ move ! (1 ∷ []) $ peeks ! D.the-row (Is D.the-row) (shows 𝓤 H A D.the-row) d (u₂ ∷ []) (λ is₂.
+        let fields = LL.owed D.the-type D′.the-laws d _ is₂ in
+        land ! (from ! (stop !)) (init ! 23 refl (LL.lawful D.the-type D′.the-laws 𝓤 H A W .typed d _ is₂ .0)) $
+        rewrite ! 23 (λ (u : Val). ‵ (fat fullShare D′.mir l10 0 u)) (ap only (LL.tells D.the-type D′.the-laws d _ is₂)) refl $ drop ! $
+        split ! $ move ! (1 ∷ []) $ drop ! $
+        -- [arena's token; its last list; what table owns; its token; _19; …]: the table goes to `put_rows`
+        assigns ! (of-opd ! (load ! (from ! (fld ! refl (stop !))) (look-in ! 22 (sub ! 1 refl (whole !))))) (from ! (stop !))
+        (init ! 20 refl (LL.lawful E.the-type E′.the-laws 𝓤 H A W .typed (d .rows) _ (fields .1 .0) .0)) $
+        assigns ! (addr ! (from ! (fld ! refl (hop ! (look-in ! 36 (sub ! 0 refl (whole !))) (stop !))))) (from ! (stop !))
+        (init ! 6 refl (tt, tt)) $
+        assigns ! (agg ! (and-then ! (load ! (from ! (stop !)) (look ! 6 refl)) (and-then ! (load ! (from ! (fld ! refl (stop !)))
+        (look-in ! 36 (sub ! 1 refl (whole !)))) (no-more !)))) (from ! (stop !)) (init ! 4 refl (
+          tt,
+          (
             tt,
-            (
-              tt,
-              (
-                record { fits = gn .0 },
-                tt,
-              ),
-            ),
-          )) $
-          move ! (2 ∷ 3 ∷ []) $ use2 W (raw (Put 𝓤 H A mem run .pre (to-put (d .rows)))) (goes-put (d .rows) (fields .1 .0)) $
-          calls-at ! fm (Put 𝓤 H A mem run) known-put (to-put (d .rows)) (and-then ! (load ! (from ! (stop !)) (look ! 3 refl)) (and-then
-          ! (load ! (from ! (stop !)) (look ! 19 refl)) (no-more !))) (λ u₃.
-          use1 W (later (some (λ (z : Unit {0}). ((‵ (flft κ₁ q₁) ⊛ ‵ ftrue) ⊛ ‵ (Nothing .own z (u₃ ∷ [])))
-          ⊛ raw (ensured 𝓤 H A put-rows.ended (put-rows.clauses 𝓤 H A mem run) (κ₁, tt) (y γ₁ ys, (d .rows, tt)) tt z)))) (id⊢ 𝓤 _) $
-          await ! tt $
-          pick ! (λ z. split ! $ move ! (1 ∷ []) $
-          use1 W (some (λ (ts : Lasts put-rows.ended (κ₁, tt) (y γ₁ ys, (d .rows, tt))). ‵ (lasts put-rows.ended (κ₁, tt) (
-            y γ₁ ys,
-            (
-              d
-                  .rows,
-              tt,
-            ),
-          ) ts)
-          ⊛ raw (fact 𝓤 (ts .0 ≡ putBack ys (d .rows))))) (id⊢ 𝓤 _) $
-          pick ! (λ ts. split ! $ move ! (1 ∷ []) $ heard ! (ts .0 ≡ putBack ys (d .rows)) (λ e₃.
-          fsplit ! $ fsplit ! $ move ! (1 ∷ []) $ feqL ! (λ len₁. move ! (1 ∷ []) $ drop ! $ move ! (1 ∷ []) $
-          split ! $ move ! (1 ∷ []) $ peeks ! Nothing (Is Nothing) (shows 𝓤 H A Nothing) z (u₃ ∷ []) (λ is₃.
-          land ! (from ! (stop !)) (init ! 9 refl (nothing-lawful 𝓤 H A W .typed z _ is₃ .0)) $ drop ! $
-          split ! $ move ! (1 ∷ []) $ drop ! $
-          -- [table's token; its last list; arena's token; its last list; _19; …]
-          assigns ! (of-opd ! (load ! (from ! (fld ! refl (stop !))) (look-in ! 22 (sub ! 0 refl (whole !))))) (from ! (stop !)) (init !
-          42 refl (LL.lawful Rep.the-type Rep′.the-laws 𝓤 H A W .typed (d .reply) _ (fields .0) .0)) $
-          returns ! (look ! 42 refl) $ forget ! 4 refl $ forget ! 6 refl $ forget ! 8 refl $ forget ! 10 refl $ forget ! 12 refl $
-          forget ! 14 refl $ forget ! 16 refl $ forget ! 18 refl $ forget ! 20 refl $ forget ! 22 refl $ forget ! 24 refl $
-          forget ! 26 refl $ forget ! 28 refl $ forget ! 30 refl $ forget ! 32 refl $ forget ! 34 refl $ forget ! 36 refl $
-          forget ! 38 refl $ forget ! 40 refl $ forget ! 42 refl $
-          move ! (42 ∷ 43 ∷ []) $ free1 ! $ move ! (40 ∷ 41 ∷ []) $ free1 ! $ move ! (38 ∷ 39 ∷ []) $ free1 ! $ move ! (36 ∷ 37 ∷ []) $
-          free1 ! $ move ! (34 ∷ 35 ∷ []) $ free1 ! $ move ! (32 ∷ 33 ∷ []) $ free1 ! $ move ! (30 ∷ 31 ∷ []) $ free1 ! $
-          move ! (28 ∷ 29 ∷ []) $ free1 ! $ move ! (26 ∷ 27 ∷ []) $ free1 ! $ move ! (24 ∷ 25 ∷ []) $ free1 ! $ move ! (22 ∷ 23 ∷ []) $
-          free1 ! $ move ! (20 ∷ 21 ∷ []) $ free1 ! $ move ! (18 ∷ 19 ∷ []) $ free1 ! $ move ! (16 ∷ 17 ∷ []) $ free1 ! $
-          move ! (14 ∷ 15 ∷ []) $ free1 ! $ move ! (12 ∷ 13 ∷ []) $ free1 ! $ move ! (10 ∷ 11 ∷ []) $ free1 ! $ move ! (8 ∷ 9 ∷ []) $
-          free1 ! $ move ! (6 ∷ 7 ∷ []) $ free1 ! $ move ! (4 ∷ 5 ∷ []) $ free1 ! $ free0 ! $
-          keep ! (2 ∷ 3 ∷ 0 ∷ 1 ∷ []) $
-          by ! (exits (d .reply) (LL.val Rep.the-type Rep′.the-laws (d .reply)) (zs .1 .0) (ts .0) (fields .0)
-          (lifted c ws ys e e₁ (step-is (step who op a b v)) (d .rows) e₂ e₃) len₀ len₁)))))))))))))))))))))))))))))))))))))))
+            (record { fits = gn .0 }, tt),
+          ),
+        )) $
+        move ! (2 ∷ 3 ∷ []) $ use2 W (raw (Put 𝓤 H A mem run .pre (to-put (d .rows)))) (goes-put (d .rows) (fields .1 .0)) $
+        calls-at ! fm (Put 𝓤 H A mem run) known-put (to-put (d .rows)) (and-then ! (load ! (from ! (stop !)) (look ! 3 refl))
+        (and-then ! (load ! (from ! (stop !)) (look ! 19 refl)) (no-more !))) (λ u₃.
+        use1 W (later (some (λ (z : Unit {0}). ((‵ (flft κ₁ q₁) ⊛ ‵ ftrue) ⊛ ‵ (Nothing .own z (u₃ ∷ [])))
+        ⊛ raw (ensured 𝓤 H A put-rows.ended (put-rows.clauses 𝓤 H A mem run) (κ₁, tt) (y γ₁ ys, (d .rows, tt)) tt z)))) (id⊢ 𝓤 _) $
+        await ! tt $
+        pick ! (λ z. split ! $ move ! (1 ∷ []) $
+        use1 W (some (λ (ts : Lasts put-rows.ended (κ₁, tt) (y γ₁ ys, (d .rows, tt))). ‵ (lasts put-rows.ended (κ₁, tt) (
+          y γ₁ ys,
+          (d .rows, tt),
+        ) ts)
+        ⊛ raw (fact 𝓤 (ts .0 ≡ putBack ys (d .rows))))) (id⊢ 𝓤 _) $
+        pick ! (λ ts. split ! $ move ! (1 ∷ []) $ heard ! (ts .0 ≡ putBack ys (d .rows)) (λ e₃.
+        fsplit ! $ fsplit ! $ move ! (1 ∷ []) $ feqL ! (λ len₁. move ! (1 ∷ []) $ drop ! $ move ! (1 ∷ []) $
+        split ! $ move ! (1 ∷ []) $ peeks ! Nothing (Is Nothing) (shows 𝓤 H A Nothing) z (u₃ ∷ []) (λ is₃.
+        land ! (from ! (stop !)) (init ! 9 refl (nothing-lawful 𝓤 H A W .typed z _ is₃ .0)) $ drop ! $
+        split ! $ move ! (1 ∷ []) $ drop ! $
+        -- [table's token; its last list; arena's token; its last list; _19; …]
+        assigns ! (of-opd ! (load ! (from ! (fld ! refl (stop !))) (look-in ! 22 (sub ! 0 refl (whole !))))) (from ! (stop !))
+        (init ! 42 refl (LL.lawful Rep.the-type Rep′.the-laws 𝓤 H A W .typed (d .reply) _ (fields .0) .0)) $
+        returns ! (look ! 42 refl) $ forget ! 4 refl $ forget ! 6 refl $ forget ! 8 refl $ forget ! 10 refl $ forget ! 12 refl $
+        forget ! 14 refl $ forget ! 16 refl $ forget ! 18 refl $ forget ! 20 refl $ forget ! 22 refl $ forget ! 24 refl $
+        forget ! 26 refl $ forget ! 28 refl $ forget ! 30 refl $ forget ! 32 refl $ forget ! 34 refl $ forget ! 36 refl $
+        forget ! 38 refl $ forget ! 40 refl $ forget ! 42 refl $
+        move ! (42 ∷ 43 ∷ []) $ free1 ! $ move ! (40 ∷ 41 ∷ []) $ free1 ! $ move ! (38 ∷ 39 ∷ []) $ free1 ! $ move ! (36 ∷ 37 ∷ []) $
+        free1 ! $ move ! (34 ∷ 35 ∷ []) $ free1 ! $ move ! (32 ∷ 33 ∷ []) $ free1 ! $ move ! (30 ∷ 31 ∷ []) $ free1 ! $
+        move ! (28 ∷ 29 ∷ []) $ free1 ! $ move ! (26 ∷ 27 ∷ []) $ free1 ! $ move ! (24 ∷ 25 ∷ []) $ free1 ! $ move ! (22 ∷ 23 ∷ []) $
+        free1 ! $ move ! (20 ∷ 21 ∷ []) $ free1 ! $ move ! (18 ∷ 19 ∷ []) $ free1 ! $ move ! (16 ∷ 17 ∷ []) $ free1 ! $
+        move ! (14 ∷ 15 ∷ []) $ free1 ! $ move ! (12 ∷ 13 ∷ []) $ free1 ! $ move ! (10 ∷ 11 ∷ []) $ free1 ! $ move ! (8 ∷ 9 ∷ []) $
+        free1 ! $ move ! (6 ∷ 7 ∷ []) $ free1 ! $ move ! (4 ∷ 5 ∷ []) $ free1 ! $ free0 ! $
+        keep ! (2 ∷ 3 ∷ 0 ∷ 1 ∷ []) $
+        by ! (exits (d .reply) (LL.val Rep.the-type Rep′.the-laws (d .reply)) (zs .1 .0) (ts .0) (fields .0)
+        (lifted c ws ys e e₁ (step-is (step who op a b v)) (d .rows) e₂ e₃) len₀ len₁)))))))))))))))))))))))))))))))))))))))
 
 module _ {M : Type 1} (𝓤 : URA M) (H : Heap 𝓤) (A : Atoms 𝓤) (W : Given 𝓤 H A) (mem : Memory → SProp 𝓤) (run : Routine → Fun 𝓤) where
   walks : (C : Calls 𝓤 H) (Λ : Loops 𝓤 H) → FmC 𝓤 H (W .laws) C → Triple 𝓤 (C #rows·take-rows) (Take 𝓤 H A mem run)
@@ -464,11 +363,7 @@ module _ {M : Type 1} (𝓤 : URA M) (H : Heap 𝓤) (A : Atoms 𝓤) (W : Given
                 uint-vals w32,
                 (
                   uint-vals w32,
-                  (
-                    uint-vals
-                        w32,
-                    (uint-vals w32, tt),
-                  ),
+                  (uint-vals w32, (uint-vals w32, tt)),
                 ),
               ),
             ),
@@ -487,14 +382,14 @@ module _ {M : Type 1} (𝓤 : URA M) (H : Heap 𝓤) (A : Atoms 𝓤) (W : Given
       ))
       (λ κs qs bounds p g are. via 𝓤 _ (fst∗ 𝓤 _ (emp 𝓤))
       (walk 𝓤 H A W mem run (κs .0) (κs .1 .0) (qs .0) (qs .1 .0) (p .0) (are .0)
-      (p .1 .0 .ptr .0) (p .1 .0 .ptr .1) (p .1 .0 .name) (p .1 .0 .now) (p .1 .1 .0 .ptr .0) (p .1 .1 .0 .ptr .1) (p .1 .1 .0 .name)
-      (p .1 .1 .0 .now)
-      (p .1 .1 .1 .0) (p .1 .1 .1 .1 .0) (p .1 .1 .1 .1 .1 .0) (p .1 .1 .1 .1 .1 .1 .0) (p .1 .1 .1 .1 .1 .1 .1 .0) (are .1 .1 .1 .0
-      .1) (are .1 .1 .1 .1 .0 .1) (are .1 .1 .1 .1 .1 .0 .1) (are .1 .1 .1 .1 .1 .1 .0 .1) (are .1 .1 .1 .1 .1 .1 .1 .0 .1) C Λ fm
-      known-take known-core known-put (are .1 .0 .0 .1) (are .1 .1 .0 .0 .1)))
+      (p .1 .0 .ptr .0) (p .1 .0 .ptr .1) (p .1 .0 .name) (p .1 .0 .now) (p .1 .1 .0 .ptr .0) (p .1 .1 .0 .ptr .1)
+      (p .1 .1 .0 .name) (p .1 .1 .0 .now)
+      (p .1 .1 .1 .0) (p .1 .1 .1 .1 .0) (p .1 .1 .1 .1 .1 .0) (p .1 .1 .1 .1 .1 .1 .0) (p .1 .1 .1 .1 .1 .1 .1 .0)
+      (are .1 .1 .1 .0 .1) (are .1 .1 .1 .1 .0 .1) (are .1 .1 .1 .1 .1 .0 .1) (are .1 .1 .1 .1 .1 .1 .0 .1)
+      (are .1 .1 .1 .1 .1 .1 .1 .0 .1) C Λ fm known-take known-core known-put (are .1 .0 .0 .1) (are .1 .1 .0 .0 .1)))
 
-meets : {M : Type 1} (𝓤 : URA M) (H : Heap 𝓤) (A : Atoms 𝓤) → Given 𝓤 H A → (mem : Memory → SProp 𝓤) (run : Routine → Fun 𝓤) (𝓣 :
-    Tables 𝓤 H)
+meets : {M : Type 1} (𝓤 : URA M) (H : Heap 𝓤) (A : Atoms 𝓤) → Given 𝓤 H A → (mem : Memory → SProp 𝓤) (run : Routine → Fun 𝓤)
+    (𝓣 : Tables 𝓤 H)
     → Triple 𝓤 (𝓣 .C #rows·take-rows) (Take 𝓤 H A mem run) → Triple 𝓤 (𝓣 .C #lent·step-rows) (Core 𝓤 H A mem run)
     → Triple 𝓤 (𝓣 .C #rows·put-rows) (Put 𝓤 H A mem run)
     → Meets 𝓤 H A entry.signature (WpFn 𝓤 H (𝓣 .C) (𝓣 .Λ) code.function) (entry.spec 𝓤 H A mem run)
@@ -504,19 +399,14 @@ meets 𝓤 H A W mem run 𝓣 known-take known-core known-put =
       (
         goes-gave-slice 𝓤 H A W 2 0 tt (plain (λ _. u32)),
         (
-          goes-gave-slice
-              𝓤 H A W 2 1 tt (plain (λ _. R)),
+          goes-gave-slice 𝓤 H A W 2 1 tt (plain (λ _. R)),
           (
             goes-none 𝓤 H A W 2 (λ _. u32) yes (λ κs x f. refl),
             (
-              goes-none 𝓤 H A W 2 (λ _. u32) yes (λ
-                  κs x f. refl),
+              goes-none 𝓤 H A W 2 (λ _. u32) yes (λ κs x f. refl),
               (
                 goes-none 𝓤 H A W 2 (λ _. u32) yes (λ κs x f. refl),
-                (
-                  goes-none 𝓤 H A W 2 (λ _. u32) yes (λ κs x f. refl),
-                  (goes-none 𝓤 H A W 2 (λ _. u32) yes (λ κs x f. refl), tt),
-                ),
+                (goes-none 𝓤 H A W 2 (λ _. u32) yes (λ κs x f. refl), (goes-none 𝓤 H A W 2 (λ _. u32) yes (λ κs x f. refl), tt)),
               ),
             ),
           ),

@@ -29,17 +29,14 @@ put-requires-8 : tie.Need-put-requires-8
 put-requires-8 c κs = search needs
 
 returns : tie.Need-returns
-returns c = (
-  row-stored _ 7 _ (c .put8 .ensures)
-      (row-stored _ 6 _ (c .before .put7 .ensures)
-      (row-stored _ 5 _ (c .before .before .put6 .ensures)
-      (row-stored _ 4 _ (c .before .before .before .put5 .ensures)
-      (row-stored _ 3 _ (c .before .before .before .before .put4 .ensures)
-      (row-stored _ 2 _ (c .before .before .before .before .before .put3 .ensures)
-      (row-stored _ 1 _ (c .before .before .before .before .before .before .put2 .ensures)
-      (row-stored _ 0 _ (c .before .before .before .before .before .before .before .put .ensures) zeros))))))),
-  four-eight (c .before .before .before .before .before .before .before .before .args .rows) _ (c .before .before .before .before .before .before .before .before .good .0),
-)
+returns c =
+    let d = c .before .before .before .before in
+    let four = row-stored _ 3 _ (d .put4 .ensures) (row-stored _ 2 _ (d .before .put3 .ensures)
+    (row-stored _ 1 _ (d .before .before .put2 .ensures) (row-stored _ 0 _ (d .before .before .before .put .ensures) zeros))) in (
+      row-stored _ 7 _ (c .put8 .ensures) (row-stored _ 6 _ (c .before .put7 .ensures)
+          (row-stored _ 5 _ (c .before .before .put6 .ensures) (row-stored _ 4 _ (c .before .before .before .put5 .ensures) four))),
+      four-eight (d .before .before .before .before .args .rows) _ (d .before .before .before .before .good .0),
+    )
 
 pub words-of-spec : {M : Type 1} → statement M
 words-of-spec =

@@ -19,9 +19,10 @@ use prog.Wp.{Heap, Calls, Loops, WpFn, Tables}
 use ghost.Atoms.{Atoms}
 use contract.Monad.{Fun}
 use contract.Running.{givenOf, tables, tablesOf}
-use types.Kit.{Given, ‵, atRet, _⊛_, ⋆, _$_, _∵_, !, qed, by, move, keep, drop, rewrite, split, join, fsplit, fjoin, feqI, suffices, frame, done}
-use types.Run.{exec, first, skips, branches, returns-within, lit, unit-lit, look, init, store-raw, forget, stop, hop, fld, from, load, of-opd}
-use types.Run.{bin, assigns, returns, enter, alloc1, alloc0, params1, pass1, pass0, free1, free0}
+use types.Kit.{Given, ‵, atRet, _⊛_, ⋆, _$_, _∵_, !, qed, by, move, keep, drop, rewrite, split, join}
+use types.Kit.{fsplit, fjoin, feqI, suffices, frame, done}
+use types.Run.{exec, first, skips, branches, returns-within, lit, unit-lit, look, init, store-raw, forget, stop, hop, fld}
+use types.Run.{from, load, of-opd, bin, assigns, returns, enter, alloc1, alloc0, params1, pass1, pass0, free1, free0}
 use types.Part.{whole, sub, look-in}
 use sound.WpLaws.{WpFn-mono}
 use denote.RattleType.{owns}
