@@ -8,6 +8,7 @@ if [ "$(uname -m)" != x86_64 ]; then
     echo "the library is x86-64 code: measure on an x86-64 machine" >&2
     exit 1
 fi
+tests/tools.sh
 rt staticlib headend
 export TANGVRAK_LIB=$PWD/target/staticlib CARGO_TARGET_DIR=$PWD/build/rust
 (cd tests/rust && cargo build --offline --release --bin bench)

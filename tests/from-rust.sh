@@ -4,13 +4,13 @@
 set -euo pipefail
 cd "$(dirname "${BASH_SOURCE[0]}")/.."
 
+tests/tools.sh
 rt staticlib headend
 export TANGVRAK_LIB=$PWD/target/staticlib CARGO_TARGET_DIR=$PWD/build/rust
 mkdir -p build
 
 case $(uname -m) in
 aarch64)
-    tests/arm-cross.sh
     # static and not position-independent: other programs crash the emulator
     export RUSTC=/usr/bin/rustc \
         CARGO_TARGET_X86_64_UNKNOWN_LINUX_GNU_LINKER=x86_64-linux-gnu-gcc \

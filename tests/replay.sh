@@ -10,7 +10,7 @@ program=$PWD/target/bin/replay
 run=("$program")
 if [ "$(uname -m)" != x86_64 ]; then
     # the program is x86-64 code: the kit's emulator and loader, as `rt` itself runs it
-    tools=$(dirname "$(dirname "$(readlink -f "$(command -v rt)")")")/toolchain
+    tools=$(dirname "$(dirname "$(readlink -f "$(command -v rt)")")")/on/$(uname -m)/toolchain
     run=("$tools/bin/qemu-x86_64" "$tools/lib/ld-linux-x86-64.so.2" --library-path "$tools/lib" "$program")
 fi
 
@@ -25,7 +25,7 @@ done
 echo "replay: $cases cases, $wrong wrong"
 [ "$wrong" -eq 0 ]
 
-command -v cargo >/dev/null || { echo "replay: no cargo, the random texts are left out"; exit 0; }
+tests/tools.sh
 mkdir -p build
 export CARGO_TARGET_DIR=$PWD/build/plain REPLAY="${run[*]}" SEEDS=${SEEDS:-400}
 (cd tests/rust/plain && cargo test --offline --release --test program -- --nocapture)
