@@ -1,30 +1,40 @@
 #!/usr/bin/env bash
-# Every statement that docs/PROOFS.md names as `crate/folder/File.antt: name, name` is declared in that file.
+# What docs/PROOFS.md names is there: each statement, written `crate/folder/File.antt: name, name`, is declared in its file; each file of the
+# reading order has the length that it says; and its list of wrong programs has every edit that must be refused, and no other.
 set -euo pipefail
 cd "$(dirname "${BASH_SOURCE[0]}")/.."
 
 fail=0
-count=0
+complain() {
+    echo "docs/PROOFS.md $*"
+    fail=1
+}
+
+statements=0
 while IFS= read -r reference; do
     file=crates/${reference%%: *}
-    names=${reference#*: }
-    if [ ! -f "$file" ]; then
-        echo "docs/PROOFS.md names $file, which is not there"
-        fail=1
-        continue
-    fi
-    IFS=', ' read -r -a wanted <<<"$names"
-    for name in "${wanted[@]}"; do
-        count=$((count + 1))
-        if ! grep -qE "^ *((unfoldable|abbrev|pub|record|data|fn|extern|\"C\") )*$name( |:|\(|$)" "$file"; then
-            echo "docs/PROOFS.md names $name in $file, which does not declare it"
-            fail=1
-        fi
+    [ -f "$file" ] || { complain "names $file, which is not there"; continue; }
+    IFS=', ' read -r -a names <<<"${reference#*: }"
+    for name in "${names[@]}"; do
+        statements=$((statements + 1))
+        grep -qE "^ *((unfoldable|abbrev|pub|record|data|fn|extern|\"C\") )*$name( |:|\(|$)" "$file" ||
+            complain "names $name in $file, which does not declare it"
     done
 done < <(grep -oE '`[a-z_]+/(src|specs|proofs)/[A-Za-z_/]+\.(antt|rt): [^`]+`' docs/PROOFS.md | tr -d '`')
-if [ "$count" -eq 0 ]; then
-    echo "docs/PROOFS.md names no statement"
-    fail=1
-fi
-echo "$count names looked up"
+
+files=0
+while IFS='|' read -r _ _ file length _; do
+    file=crates/$(tr -d ' `' <<<"$file") length=$(tr -d ' ' <<<"$length")
+    files=$((files + 1))
+    [ "$(wc -l <"$file")" -eq "$length" ] || complain "says that $file has $length lines: it has $(wc -l <"$file")"
+done < <(grep -E '^\| [0-9]+ \| `[a-z_]+/(src|specs)/[A-Za-z]+\.(antt|rt)` \| [0-9]+ \|' docs/PROOFS.md)
+
+listed=$(sed -n '/^## Wrong programs/,$p' docs/PROOFS.md | { grep -oE '`[a-z_-]+/[a-z0-9_]+`' || true; } | tr -d '`' | sort)
+edits=$(ls crates/*/must-fail/*.edit tests/wrong-steps/*.edit | sed -E 's#^(crates|tests)/##; s#/must-fail/#/#; s#\.edit$##' | sort)
+while IFS= read -r odd; do
+    complain "and the edits differ: $odd"
+done < <(diff <(echo "$listed") <(echo "$edits") | sed -n 's/^< /listed once too often or not there: /p; s/^> /not listed: /p')
+
+[ "$statements" -gt 0 ] && [ "$files" -gt 0 ] || complain "names no statement, or has no reading order"
+echo "$statements names, $files lengths and $(wc -l <<<"$edits") edits looked up"
 exit "$fail"
