@@ -2,7 +2,8 @@
  *
  * Control record, arena and client table lie in one buffer of TANGVRAK_BUFFER bytes that the caller owns; docs/LAYOUT.md says what
  * each byte means. Numbers are lowest byte first. Every call returns answer × 2^32 + value; a call that is refused (an answer below
- * 20) writes no byte. No call keeps a pointer, allocates, or blocks.
+ * 20) writes no byte. No call keeps a pointer, allocates, or blocks. Calls on one buffer come one after another, and the buffer, the
+ * steps and the slots of a run lie apart from each other. On x86-64 a run was seen to take 156 KB of stack, the other calls at most 41 KB.
  */
 #ifndef TANGVRAK_H
 #define TANGVRAK_H
