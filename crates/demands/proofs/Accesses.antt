@@ -17,9 +17,10 @@ use Rattle.model.specs.Rows.{freshRow}
 use Rattle.model.specs.State.{State}
 use Rattle.model.specs.Answers.{number, Outcome}
 use Rattle.model.specs.Steps.{Step, act}
+use Rattle.model.proofs.Says.{getD-fresh}
 use Rattle.demands.specs.Promises.{TwoOrThree, two, three}
 use Rattle.demands.specs.Log.{line, Log, after, log, said, ownAnswers, sinceAsked}
-use Rattle.demands.proofs.Lists.{getD-fresh, set-cases, and-false}
+use Rattle.demands.proofs.Lists.{set-cases, and-false}
 use Rattle.demands.proofs.RowLaws.{cleared-get}
 use Rattle.demands.proofs.Did.{Turn, handles, readies, waits-on, swaps, ends, SameRows, same, cleared, Did, refuses, stays, keeps}
 use Rattle.demands.proofs.Did.{acts, did}

@@ -15,9 +15,9 @@ use Rattle.model.specs.Steps.{Step, Name, ADMIT, RETIRE, BEGIN, ADVANCE, ATTACH
 use Rattle.model.specs.Steps.{NOBODY, named, nameOf, act}
 use Rattle.model.proofs.Choice.{by-test}
 use Rattle.model.proofs.CellMap.{fresh-map, fresh-free}
+use Rattle.model.proofs.Says.{getD-fresh}
 use Rattle.demands.specs.Log.{Account, newClient, newAccount, after, log, said}
-use Rattle.demands.proofs.Lists.{getD-fresh}
-use Rattle.demands.proofs.Keeping.{Good, Keeps, keeps}
+use Rattle.demands.proofs.Keeping.{Good, Keeps}
 use Rattle.demands.proofs.Inv.{empty, rests, RowOK, Sides, early, late, Inv}
 use Rattle.demands.proofs.Clients.{attach-inv, detach-inv, open-inv, drop-inv, read-inv, write-inv, rest-inv}
 use Rattle.demands.proofs.Finishes.{go-inv}

@@ -18,9 +18,10 @@ use Rattle.model.specs.State.{State}
 use Rattle.model.specs.Answers.{number, Outcome}
 use Rattle.model.specs.Steps.{Step}
 use Rattle.model.proofs.Choice.{same-or-not}
+use Rattle.model.proofs.Says.{getD-fresh}
 use Rattle.demands.specs.Log.{line, Log, after, log, said, answered, answeredTo}
 use Rattle.demands.proofs.Stages.{Early}
-use Rattle.demands.proofs.Lists.{getD-fresh, set-cases, and-false}
+use Rattle.demands.proofs.Lists.{set-cases, and-false}
 use Rattle.demands.proofs.RowLaws.{oldHeader, cleared-get}
 use Rattle.demands.proofs.Did.{Turn, handles, readies, waits-on, swaps, ends, SameRows, same, cleared, Did, refuses, stays, keeps}
 use Rattle.demands.proofs.Did.{acts, Kept, admits, retires, begins, starts, copies, fills, commits, calls-off, gives-back, did}

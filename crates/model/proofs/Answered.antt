@@ -20,7 +20,8 @@ use Rattle.model.specs.Answers.{Outcome, number, value}
 use Rattle.model.specs.ClientSteps.{atHeader, swap, go}
 use Rattle.model.specs.KeeperSteps.{moveOf, barrier, copyWord, settle, advance}
 use Rattle.model.specs.Refusals.{Refusal, _if_}
-use Rattle.model.specs.Steps.{Step, Name, ADMIT, RETIRE, BEGIN, ADVANCE, ATTACH, DETACH, OPEN, DROP, READ, WRITE, GO, REST, UNKNOWN, NOBODY, nameOf, ownRow, refusals, seated, effect, refused, act}
+use Rattle.model.specs.Steps.{Step, Name, ADMIT, RETIRE, BEGIN, ADVANCE, ATTACH, DETACH, OPEN, DROP, READ, WRITE, GO, REST, UNKNOWN}
+use Rattle.model.specs.Steps.{NOBODY, nameOf, ownRow, refusals, seated, effect, refused, act}
 use Rattle.model.specs.Calls.{wrongSize, unsound, stepCall}
 use Rattle.model.proofs.Choice.{by-test}
 use Rattle.model.proofs.Refusals.{rising, Each, numbers, each, by-refusals}
@@ -46,7 +47,7 @@ refusals-rise NOBODY s t = tt
 abbrev pub numberOf01 : ℕ → Bool
 numberOf01 n = (leb 1 n and leb n 15) or (leb 20 n and leb n 27) or (leb 30 n and leb n 35)
 
--- the answer is one of these, and below 20 "all memory and the control record are then as before, and the value is 0"
+-- the answer is one of these, and below 20 "All memory and the control record are then as before, and the value is 0"
 pub record Answered (s : State) (o : Outcome) : Type 0 where
   pub tabled : T (numberOf01 (number (o .answer)))
   pub unchanged : number (o .answer) < 20 → (value (o .answer) ≡ 0) × (o .next ≡ s)
@@ -63,10 +64,12 @@ module _ (s : State) (t : Step) where
   by-stage idle = turned-down s 9 tt
   by-stage firstBarrier = by-test (Answered s) (allPassed (s .table)) (λ _. accepted s _ tt tt) (λ _. accepted s _ tt tt)
   by-stage copying =
-      by-test (Answered s) (eqb (rise (moveOf s .copied)) (wordsAt (s .arena) (moveOf s .from))) (λ _. accepted s _ tt tt) (λ _. accepted s _ tt tt)
+      by-test (Answered s) (eqb (rise (moveOf s .copied)) (wordsAt (s .arena) (moveOf s .from))) (λ _. accepted s _ tt tt)
+      (λ _. accepted s _ tt tt)
   by-stage secondBarrier =
       by-test (Answered s) (allPassed (s .table))
-      (λ _. by-test (Answered s) (eqb (header (s .arena) (moveOf s .from)) (flagged (moveOf s .from))) (λ _. accepted s _ tt tt) (λ _. accepted s _ tt tt))
+      (λ _. by-test (Answered s) (eqb (header (s .arena) (moveOf s .from)) (flagged (moveOf s .from))) (λ _. accepted s _ tt tt)
+      (λ _. accepted s _ tt tt))
       (λ _. accepted s _ tt tt)
   by-stage thirdBarrier = by-test (Answered s) (allPassed (s .table)) (λ _. accepted s _ tt tt) (λ _. accepted s _ tt tt)
 
@@ -84,7 +87,8 @@ module _ (s : State) (t : Step) where
   by-phase (Ready c (Read h w)) = accepted s _ tt tt
   by-phase (Ready c (Write h w v)) = accepted s _ tt tt
   by-phase (Waiting c x) =
-      by-test (λ (o : Stepped). Answered s (seated s t o)) (eqb (header (s .arena) c) (flagged c)) (λ _. accepted s _ tt tt) (λ _. accepted s _ tt tt)
+      by-test (λ (o : Stepped). Answered s (seated s t o)) (eqb (header (s .arena) c) (flagged c)) (λ _. accepted s _ tt tt)
+      (λ _. accepted s _ tt tt)
 
   by-name : (n : Name) → Answered s (effect n s t)
   unfolding Seated

@@ -30,7 +30,8 @@ copy-writes s h =
     (λ _. getD-set-same (s .arena) (place (moveOf s .target) (moveOf s .copied)) (replicaWord (s .arena) (moveOf s)) 0 h)
     (λ _. getD-set-same (s .arena) (place (moveOf s .target) (moveOf s .copied)) (replicaWord (s .arena) (moveOf s)) 0 h)
 
-pub copy-leaves : (s : State) (i : ℕ) → i ≢ place (moveOf s .target) (moveOf s .copied) → getD (copyWord s .next .arena) i 0 ≡ getD (s .arena) i 0
+pub copy-leaves : (s : State) (i : ℕ) → i ≢ place (moveOf s .target) (moveOf s .copied)
+    → getD (copyWord s .next .arena) i 0 ≡ getD (s .arena) i 0
 unfolding copyWord
 copy-leaves s i n =
     by-test (λ (o : Outcome). getD (o .next .arena) i 0 ≡ getD (s .arena) i 0)
@@ -38,7 +39,8 @@ copy-leaves s i n =
     (λ _. getD-set-other (s .arena) (place (moveOf s .target) (moveOf s .copied)) i (replicaWord (s .arena) (moveOf s)) 0 n)
     (λ _. getD-set-other (s .arena) (place (moveOf s .target) (moveOf s .copied)) i (replicaWord (s .arena) (moveOf s)) 0 n)
 
-pub replica-copies : (s : State) → moveOf s .copied ≢ 0 → replicaWord (s .arena) (moveOf s) ≡ word (s .arena) (moveOf s .from) (moveOf s .copied)
+pub replica-copies : (s : State) → moveOf s .copied ≢ 0
+    → replicaWord (s .arena) (moveOf s) ≡ word (s .arena) (moveOf s .from) (moveOf s .copied)
 unfolding replicaWord
 replica-copies s n = rw (ne-eqb (moveOf s .copied) 0 n)
 
