@@ -17,6 +17,7 @@ pub mod Ends
 pub mod Admits
 pub mod Always
 pub mod Did
+pub mod Counted
 pub mod MoveCounts
 pub mod SwapCounts
 pub mod Accesses

@@ -5,7 +5,7 @@ use mathlib.Core.List.{List}
 use Prim.Native.Nat.{ℕ, pred, _≤_, _<_}
 use native.Mathlib.Omega.{arith}
 use lib.Dec.{T}
-use lib.ListN.{length, getD, length-set, List·getD-map}
+use lib.ListN.{length, getD, set, length-set, List·getD-map}
 use Rattle.model.specs.declared.Access.{Access}
 use Rattle.model.specs.declared.Phase.{Phase}
 use Rattle.model.specs.declared.Phase.the-variants.{Resting, Ready}
@@ -14,13 +14,13 @@ use Rattle.model.specs.declared.Move.{Move}
 use Rattle.model.specs.Choice.{one}
 use Rattle.model.specs.Records.{none, header}
 use Rattle.model.specs.Rows.{busy, hold, freshRow, withPassed, cleared, clearMarks, hasPassed, allPassed}
-use Rattle.model.specs.State.{State, withRow}
+use Rattle.model.specs.State.{State, withTable, withRow}
 use Rattle.model.specs.Steps.{Step, ownRow}
 use Rattle.model.proofs.Choice.{clash}
 use Rattle.demands.specs.Log.{noAccess, Client, Account, newClient, clientOf, withClient}
 use Rattle.demands.proofs.Lists.{set-cases, set-both, all-get}
 use Rattle.demands.proofs.Blocks.{side-lt}
-use Rattle.demands.proofs.Inv.{Flag, empty, ReadyOK, WaitingOK, PhaseOK, rests, ready, waits, Detached, RowOK, late, Inv}
+use Rattle.demands.proofs.Inv.{Flag, empty, ReadyOK, WaitingOK, PhaseOK, rests, ready, waits, Detached, RowOK, late, Rows, Inv}
 
 -- what the invariant says, in state s, of row r and client q, and of the phase of the row whose step it is
 abbrev pub oldHeader : State → ℕ
@@ -111,25 +111,24 @@ module _ {X : Type 0} {s : State} {g : Account} (I : Inv X s g) where
     phase = subst⁻¹ (PhaseOK X _ _ _ _ _ r newClient) e (rests refl);
   }
 
+  -- other rows, against other clients
+  pub with-rows : (table : List Row) (clients : ℕ → Client) → length table ≡ 8
+      → Rows X (s .control .dir) (s .control .mv) (g .kind) (oldHeader s) (s .control .begun) table clients
+      → Inv X (withTable s table) (record { lastWritten = g .lastWritten; kind = g .kind; clients = clients })
+  with-rows table clients n rows =
+      record { own = I .own; core = I .core; eight = n; r7 = I .r7; small = I .small; rows = rows }
+
   -- a client's own row, with or without a new word from the log
   module _ (t : Step) (seat : pred (t .who) < 8) (r : Row) where
+    eight-rows : length (set (s .table) (pred (t .who)) r) ≡ 8
+    eight-rows = length-set (s .table) (pred (t .who)) r ∙ I .eight
+
     pub seat-row : (q : Client) → RowIn X s g r q → Inv X (withRow s (t .who) r) (withClient g t q)
-    seat-row q ok = record {
-      own = I .own;
-      core = I .core;
-      eight = length-set (s .table) (pred (t .who)) r ∙ I .eight;
-      r7 = I .r7;
-      small = I .small;
-      rows = set-both (RowIn X s g) (s .table) (g .clients) (pred (t .who)) r q freshRow (omega (arith, I .eight)) ok (I .rows);
-    }
+    seat-row q ok =
+        with-rows _ _ eight-rows
+        (set-both (RowIn X s g) (s .table) (g .clients) (pred (t .who)) r q freshRow (omega (arith, I .eight)) ok (I .rows))
 
     pub reseat-row : RowIn X s g r (clientOf g t) → Inv X (withRow s (t .who) r) g
-    reseat-row ok = record {
-      own = I .own;
-      core = I .core;
-      eight = length-set (s .table) (pred (t .who)) r ∙ I .eight;
-      r7 = I .r7;
-      small = I .small;
-      rows = set-cases (λ j x. RowIn X s g x (g .clients j)) (s .table) (pred (t .who)) r freshRow (omega (arith, I .eight)) ok
-          (λ j _. I .rows j);
-    }
+    reseat-row ok =
+        with-rows _ (g .clients) eight-rows
+        (set-cases (λ j x. RowIn X s g x (g .clients j)) (s .table) (pred (t .who)) r freshRow (omega (arith, I .eight)) ok (λ j _. I .rows j))
