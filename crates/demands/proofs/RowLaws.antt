@@ -131,4 +131,5 @@ module _ {X : Type 0} {s : State} {g : Account} (I : Inv X s g) where
     pub reseat-row : RowIn X s g r (clientOf g t) → Inv X (withRow s (t .who) r) g
     reseat-row ok =
         with-rows _ (g .clients) eight-rows
-        (set-cases (λ j x. RowIn X s g x (g .clients j)) (s .table) (pred (t .who)) r freshRow (omega (arith, I .eight)) ok (λ j _. I .rows j))
+        (set-cases (λ j x. RowIn X s g x (g .clients j)) (s .table) (pred (t .who)) r freshRow (omega (arith, I .eight)) ok
+        (λ j _. I .rows j))

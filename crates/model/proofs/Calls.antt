@@ -14,7 +14,8 @@ use Rattle.model.specs.Answers.{outcome, number, value}
 use Rattle.model.specs.Fresh.{fresh}
 use Rattle.model.specs.Steps.{Step, step, refused, act}
 use Rattle.model.specs.Rules.{firstBroken}
-use Rattle.model.specs.Calls.{wrongSize, unsound, freshCall, auditCall, fillCall, stepCall, ran, oneByOne, stepsFrom, stepsOf, runSizes}
+use Rattle.model.specs.Calls.{wrongSize, unsound, freshCall, auditCall, fillCall, stepCall, ran, oneByOne, stepsFrom, stepsOf}
+use Rattle.model.specs.Calls.{runSizes}
 use Rattle.model.proofs.Says.{Says, says-as, says-eq, says-le, says-not, says-and}
 
 -- a state that breaks no rule is not refused by 2

@@ -74,7 +74,8 @@ none-listed : (f : Name → Bool) (l : List Name) → all (λ n. not (f n)) l �
 none-listed f l e d c = all-get (λ n. f n ≡ false) l c (says-all (λ n. not (f n)) _ (λ n. says-isnt (f n)) l .holds e) d
 
 pub not-keepers : (client c : ℕ) → ofKeeper (named (suc client) c) ≡ false
-not-keepers client c = by-test (λ (n : Name). ofKeeper n ≡ false) (ltb client 8) (λ _. none-listed ofKeeper clientCodes refl refl c) (λ _. refl)
+not-keepers client c =
+    by-test (λ (n : Name). ofKeeper n ≡ false) (ltb client 8) (λ _. none-listed ofKeeper clientCodes refl refl c) (λ _. refl)
 
 pub keeper-who : (who c : ℕ) → ofKeeper (named who c) ≡ true → who ≡ 0
 keeper-who zero c e = refl

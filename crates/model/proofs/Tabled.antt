@@ -112,7 +112,8 @@ says-none-free map n some = says-as (none-free (lowest-is-lowest map n some)) (i
 -- 13 "no free run of that length starts below the record", which is at cell c
 pub says-none-below : (map : List ℕ) (n c : ℕ) → 0 < n → c ≤ 65535
     → Says (leb c (lowestRun map n)) ((d : ℕ) → d < c → ¬ FreeRun map n d)
-says-none-below map n c some fits = says-as (none-below (lowest-is-lowest map n some)) (at-least (lowest-is-lowest map n some)) (says-le _ _)
+says-none-below map n c some fits =
+    says-as (none-below (lowest-is-lowest map n some)) (at-least (lowest-is-lowest map n some)) (says-le _ _)
   where
     none-below : {r : ℕ} → IsLowest map n r → c ≤ r → (d : ℕ) → d < c → ¬ FreeRun map n d
     none-below (nowhere f) h d p = f d

@@ -13,8 +13,8 @@ use Rattle.model.specs.Kinds.{cells}
 use Rattle.model.specs.Records.{none, start, place, word, header, plain, flagged, cellsAt, wordsAt, newRecord, laid}
 use Rattle.model.specs.CellMap.{putRun}
 use Rattle.model.specs.Rows.{clearMarks, allPassed}
-use Rattle.model.specs.State.{Stage, idle, firstBarrier, copying, secondBarrier, thirdBarrier, stageNumber, noMove, withStage, withCopied}
-use Rattle.model.specs.State.{withDir, withMap, withMove, withBegun, withCommitted, withAborted, rise, State, state, withControl}
+use Rattle.model.specs.State.{Stage, idle, firstBarrier, copying, secondBarrier, thirdBarrier, stageNumber, noMove, withStage}
+use Rattle.model.specs.State.{withCopied, withDir, withMap, withMove, withBegun, withCommitted, withAborted, rise, State, state, withControl}
 use Rattle.model.specs.Answers.{Outcome, outcome}
 
 -- "Its cells become used", "cells free": the n cells from c on
@@ -82,8 +82,8 @@ copyWord s =
     (copied s secondBarrier (clearMarks (s .table)))
     (copied s copying (s .table))
 
--- second barrier: "Else compare the header with 2 × from + 1. Equal: header becomes 2 × target, directory entry the target, committed rises, marks are cleared, stage third
--- barrier, answer 25, value target."
+-- second barrier: "Else compare the header with 2 × from + 1. Equal: header becomes 2 × target, directory entry the target, committed
+-- rises, marks are cleared, stage third barrier, answer 25, value target."
 abbrev pub commit : State → Outcome
 commit s =
     outcome (Committed (moveOf s .target))
