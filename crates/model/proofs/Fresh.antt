@@ -1,5 +1,5 @@
--- "A fresh directory has all 256 meters absent", every cell is free, and the fresh state is sound: by laws, nothing is computed over
--- 256 entries or 1,024 cells. Assumes nothing.
+-- "A fresh directory has all 256 meters absent", every word of the arena is zero, and the fresh state is sound: by laws, nothing is
+-- computed over 256 entries or 1,024 cells. Assumes nothing.
 use mathlib.Core.Path.{_≡_, refl, _∙_}
 use mathlib.Core.Logic.{_≢_}
 use mathlib.Core.Bool.{Bool, true, false}

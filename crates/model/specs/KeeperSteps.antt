@@ -49,8 +49,7 @@ begin s meter from target =
     (state
     (withBegun (withMove (taken (s .control) target (cellsAt (s .arena) from)) (firstMove meter from target))
     (rise (s .control .begun)))
-    (set (s .arena) (place from 0) (flagged from))
-    (clearMarks (s .table)))
+    (set (s .arena) (place from 0) (flagged from)) (clearMarks (s .table)))
 
 -- 4 ADVANCE, by stage: the move in hand
 abbrev pub moveOf : State → Move
@@ -82,16 +81,15 @@ copyWord s =
     (copied s secondBarrier (clearMarks (s .table)))
     (copied s copying (s .table))
 
--- second barrier: "Else compare the header with 2 × from + 1. Equal: header becomes 2 × target, directory entry the target, committed
--- rises, marks are cleared, stage third barrier, answer 25, value target."
+-- second barrier: "Equal: header becomes 2 × target, directory entry the target, committed rises, marks are cleared, stage third
+-- barrier, answer 25, value target."
 abbrev pub commit : State → Outcome
 commit s =
     outcome (Committed (moveOf s .target))
     (state
     (withCommitted (withMove (withEntry (s .control) (moveOf s .meter) (moveOf s .target)) (withStage (moveOf s) thirdBarrier))
     (rise (s .control .committed)))
-    (set (s .arena) (place (moveOf s .from) 0) (plain (moveOf s .target)))
-    (clearMarks (s .table)))
+    (set (s .arena) (place (moveOf s .from) 0) (plain (moveOf s .target))) (clearMarks (s .table)))
 
 -- "Not equal: the replica's cells are freed, aborted rises, no move in hand, answer 26."
 abbrev pub callOff : State → Outcome
@@ -101,6 +99,7 @@ callOff s =
     (withAborted (withMove (freed (s .control) (moveOf s .target) (cellsAt (s .arena) (moveOf s .from))) noMove)
     (rise (s .control .aborted))))
 
+-- "Else compare the header with 2 × from + 1."
 unfoldable pub settle : State → Outcome
 settle s = pick (eqb (header (s .arena) (moveOf s .from)) (flagged (moveOf s .from))) (commit s) (callOff s)
 
