@@ -24,7 +24,8 @@ use Rattle.demands.proofs.Clients.{attach-inv, detach-inv, open-inv, dr
 use Rattle.demands.proofs.Finishes.{go-inv}
 use Rattle.demands.proofs.Begins.{begin-inv}
 use Rattle.demands.proofs.Ends.{advance-inv}
-use Rattle.demands.proofs.Admits.{admit-inv, retire-inv}
+use Rattle.demands.proofs.Admits.{admit-inv}
+use Rattle.demands.proofs.Retires.{retire-inv}
 
 -- who is nobody, or has a row
 pub seated-or-nobody : (who code : ℕ) → (named who code ≡ NOBODY) ⊎ (pred who < 8)

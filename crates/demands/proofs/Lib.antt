@@ -15,6 +15,7 @@ pub mod Copying
 pub mod Commits
 pub mod Ends
 pub mod Admits
+pub mod Retires
 pub mod Always
 pub mod Did
 pub mod Counted
