@@ -14,7 +14,8 @@ use Rattle.model.specs.Records.{none, start, place, word, header, plain,
 use Rattle.model.specs.CellMap.{putRun}
 use Rattle.model.specs.Rows.{clearMarks, allPassed}
 use Rattle.model.specs.State.{Stage, idle, firstBarrier, copying, secondBarrier, thirdBarrier, stageNumber, noMove, withStage}
-use Rattle.model.specs.State.{withCopied, withDir, withMap, withMove, withBegun, withCommitted, withAborted, rise, State, state, withControl}
+use Rattle.model.specs.State.{withCopied, withDir, withMap, withMove, withBegun, withCommitted, withAborted, rise}
+use Rattle.model.specs.State.{State, state, withControl}
 use Rattle.model.specs.Answers.{Outcome, outcome}
 
 -- "Its cells become used", "cells free": the n cells from c on
