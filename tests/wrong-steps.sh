@@ -1,7 +1,7 @@
 #!/usr/bin/env bash
-# The "Errors that look reasonable", each put into the definitions of the steps: the theorems of `demands` must refuse it. (A must-fail
-# edit stays within its crate; here the definitions are in `model` and what refuses them in `demands`.) Laws of single steps that would
-# refuse most of them already, and that the theorems do not use, are left out, so that the theorems have to.
+# The "Errors that look reasonable", and other wrong readings of a step, each put into the definitions: the theorems of `demands` must
+# refuse it. (A must-fail edit stays within its crate; here the definitions are in `model` and what refuses them in `demands`.) Laws of
+# single steps that would refuse most of them already, and that the theorems do not use, are left out, so that the theorems have to.
 set -euo pipefail
 cd "$(dirname "${BASH_SOURCE[0]}")/.."
 

@@ -104,7 +104,7 @@ abbrev case6 : List Line
 case6 = step 8 10 0 0 0 gives 30 with 0 ∷ step 9 10 0 0 0 gives 3 with 0 ∷ step 0 10 0 0 0 gives 4 with 0 ∷ []
 
 -- 7 "the same run up to its second 0 4 0 0 0, then eight ADVANCE and a REST of client 1: a WRITE then loads the flag after passing
--- the second barrier, the mover commits, GO gives 33 with 0, and the write lands in the new block."
+-- the second barrier, the mover commits, GO gives 33 value 0, and the write lands in the new block."
 abbrev case7 : List Line
 case7 =
     copies 0 8
@@ -161,5 +161,6 @@ passes c = plays fresh (c .lines) (c .totals)
 
 -- THE CLAIM: every row of the table passes
 pub cases-pass : T (all passes table)
-unfolding kindTable ofKind laid bit withBit used put putRun countUsed fill freeCells runAt lowestFrom lowestRun rise atHeader swap forwarded barrier replicaWord copyWord settle act
+unfolding kindTable ofKind laid bit withBit used put putRun countUsed fill freeCells runAt lowestFrom lowestRun
+    rise atHeader swap forwarded barrier replicaWord copyWord settle act
 cases-pass = tt

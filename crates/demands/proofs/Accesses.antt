@@ -1,7 +1,6 @@
 -- Demand 3, accesses: when a client is answered 34 or 35, the answers of its own accepted steps before are 31, or 33 after 32: the access
 -- took two of its steps, or three. Assumes nothing.
 use mathlib.Core.Path.{_≡_, refl, ap, subst⁻¹}
-use mathlib.Core.Logic.{_⊎_, inl, inr}
 use mathlib.Core.List.{List, [], _∷_}
 use Prim.Native.Nat.{ℕ, suc, pred, _≤_}
 use native.Mathlib.Omega.{arith}
@@ -17,9 +16,10 @@ use Rattle.model.specs.Rows.{freshRow}
 use Rattle.model.specs.State.{State}
 use Rattle.model.specs.Answers.{number, Outcome}
 use Rattle.model.specs.Steps.{Step, act}
+use Rattle.model.proofs.Says.{getD-fresh}
 use Rattle.demands.specs.Promises.{TwoOrThree, two, three}
-use Rattle.demands.specs.Log.{line, Log, after, log, said, ownAnswers, sinceAsked}
-use Rattle.demands.proofs.Lists.{getD-fresh, set-cases, and-false}
+use Rattle.demands.specs.Log.{line, Log, after, log, said, ownAnswers}
+use Rattle.demands.proofs.Lists.{set-cases, and-false}
 use Rattle.demands.proofs.RowLaws.{cleared-get}
 use Rattle.demands.proofs.Did.{Turn, handles, readies, waits-on, swaps, ends, SameRows, same, cleared, Did, refuses, stays, keeps}
 use Rattle.demands.proofs.Did.{acts, did}
@@ -93,14 +93,3 @@ phases (t ∷ l) = let I = always {X = ⊥} l in did-since (I .eight) (did (afte
 
 pub access-heard : (l : List Step) (t : Step) → 34 ≤ number (act (after l) t .answer) → TwoOrThree (ownAnswers (t .who) (log l))
 access-heard l t n = did-ended (did (after l) (said (log l)) t (always {X = ⊥} l)) n (phases l)
-
--- how many: this step and those back to its READ or WRITE
-pub access-takes : (l : List Step) (t : Step) → 34 ≤ number (act (after l) t .answer)
-    → (sinceAsked (ownAnswers (t .who) (log (t ∷ l))) ≡ 2) ⊎ (sinceAsked (ownAnswers (t .who) (log (t ∷ l))) ≡ 3)
-access-takes l t n = rw (eq-eqb (t .who) (t .who) refl, le-leb 20 (number (act (after l) t .answer)) (omega arith))
-    (count (number (act (after l) t .answer)) n (access-heard l t n))
-  where
-    count : (x : ℕ) → 34 ≤ x → TwoOrThree (ownAnswers (t .who) (log l))
-        → (sinceAsked (x ∷ ownAnswers (t .who) (log l)) ≡ 2) ⊎ (sinceAsked (x ∷ ownAnswers (t .who) (log l)) ≡ 3)
-    count x b (two k e) = inl (rw (ne-eqb x 31 (omega arith), ne-eqb x 32 (omega arith), e) refl)
-    count x b (three k e) = inr (rw (ne-eqb x 31 (omega arith), ne-eqb x 32 (omega arith), e) refl)

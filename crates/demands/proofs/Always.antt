@@ -15,15 +15,17 @@ use Rattle.model.specs.Steps.{Step, Name, ADMIT, RETIRE, BEGIN, ADVANCE, ATTACH
 use Rattle.model.specs.Steps.{NOBODY, named, nameOf, act}
 use Rattle.model.proofs.Choice.{by-test}
 use Rattle.model.proofs.CellMap.{fresh-map, fresh-free}
+use Rattle.model.proofs.Says.{getD-fresh}
 use Rattle.demands.specs.Log.{Account, newClient, newAccount, after, log, said}
-use Rattle.demands.proofs.Lists.{getD-fresh}
-use Rattle.demands.proofs.Keeping.{Good, Keeps, keeps}
-use Rattle.demands.proofs.Inv.{empty, rests, RowOK, Sides, early, late, Inv}
+use Rattle.demands.proofs.Keeping.{Good, Keeps}
+use Rattle.demands.proofs.Inv.{empty, rests, RowOK, Inv}
+use Rattle.demands.proofs.Blocks.{still}
 use Rattle.demands.proofs.Clients.{attach-inv, detach-inv, open-inv, drop-inv, read-inv, write-inv, rest-inv}
 use Rattle.demands.proofs.Finishes.{go-inv}
 use Rattle.demands.proofs.Begins.{begin-inv}
 use Rattle.demands.proofs.Ends.{advance-inv}
-use Rattle.demands.proofs.Admits.{admit-inv, retire-inv}
+use Rattle.demands.proofs.Admits.{admit-inv}
+use Rattle.demands.proofs.Retires.{retire-inv}
 
 -- who is nobody, or has a row
 pub seated-or-nobody : (who code : ℕ) → (named who code ≡ NOBODY) ⊎ (pred who < 8)
@@ -56,32 +58,13 @@ act-inv {X} s g t I =
 pub fresh-inv : {X : Type 0} → Inv X fresh newAccount
 fresh-inv {X} = record {
   own = λ x. none;
-  core = record {
-    entries256 = refl;
-    words8192 = refl;
-    is-map = fresh-map;
-    entries = λ m n. absurd (n (getD-fresh 256 m none));
-    mapped = λ x _. fresh-free x;
-    owned = λ x n. absurd (n refl);
-    idle = λ _. refl;
-    sides = λ b. absurd (no-sides b);
-    count = tt;
-    old-head = λ l. absurd l;
-    old-label = λ l. absurd l;
-    replica-head = λ l. absurd l;
-    replica-label = λ l. absurd l;
-    replica = λ _ f. absurd (f .0);
-  };
+  core = still refl refl fresh-map (λ m n. absurd (n (getD-fresh 256 m none))) (λ x _. fresh-free x) (λ x n. absurd (n refl));
   eight = refl;
   rows = λ i. rw (getD-fresh 8 i freshRow) row;
   r7 = refl;
   small = omega arith;
 }
   where
-    no-sides : {c d : ℕ} → Sides noMove c d → ⊥
-    no-sides (early l) = l
-    no-sides (late l) = l
-
     row : RowOK X (replicate 256 none) noMove (λ m. 0) (header (replicate 8192 0) 0) 0 freshRow newClient
     row = record {
       four = refl;

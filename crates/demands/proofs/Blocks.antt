@@ -1,20 +1,23 @@
 -- What the invariant says of the records, of the move's two blocks and of a held cell. Assumes nothing.
-use mathlib.Core.Path.{_≡_, sym, ap, _∙_}
+use mathlib.Core.Path.{_≡_, refl, sym, ap, _∙_}
 use mathlib.Core.Logic.{_≢_}
 use mathlib.Core.List.{List}
 use Prim.Native.Nat.{ℕ, _*_, _≤_, _<_}
 use native.Mathlib.Omega.{arith}
 use lib.Dec.{T}
+use lib.ListN.{length}
 use Rattle.model.specs.declared.Move.{Move}
 use Rattle.model.specs.Kinds.{cells, words}
 use Rattle.model.specs.Records.{none, header, plain, flagged, label, kindOf}
-use Rattle.model.specs.State.{Stage, idle, firstBarrier, copying, secondBarrier, thirdBarrier, stageOf, entry}
+use Rattle.model.specs.State.{Stage, idle, firstBarrier, copying, secondBarrier, thirdBarrier, stageOf, noMove, entry}
 use Rattle.model.specs.Rules as rules
 use Rattle.model.proofs.ByKind.{Real, real}
+use Rattle.model.proofs.CellMap.{IsMap}
 use Rattle.demands.proofs.Stages.{first, First, Early, not-both}
 use Rattle.demands.proofs.Lists.{getD-in}
-use Rattle.demands.proofs.Owners.{other}
-use Rattle.demands.proofs.Inv.{Flag, HoldOK, empty, here, was, HeadOK, own-head, flag-head, EntryOK, Sides, early, late, Count, Core}
+use Rattle.demands.proofs.Owners.{other, Mapped}
+use Rattle.demands.proofs.Inv.{Flag, HoldOK, empty, here, was, HeadOK, own-head, flag-head, EntryOK, Sides, early, late, Count}
+use Rattle.demands.proofs.Inv.{Block, Core}
 
 pub copied-le : (g : Stage) (z n : ℕ) → T (rules.early g) → Count g z n → n ≤ z
 copied-le idle z n l k = absurd l
@@ -29,6 +32,31 @@ first-none firstBarrier z n l k = k
 first-none copying z n l k = absurd l
 first-none secondBarrier z n l k = absurd l
 first-none thirdBarrier z n l k = absurd l
+
+-- with no move in hand only the records and the map say something
+pub still : {X : Type 0} {dir map arena : List ℕ} {val : ℕ → ℕ → ℕ} {kind own : ℕ → ℕ} → length dir ≡ 256 → length arena ≡ 8192 → IsMap map
+    → ((m : ℕ) → entry dir m ≢ none → EntryOK X noMove arena val kind own m (entry dir m)) → Mapped own map
+    → ((x : ℕ) → own x ≢ none → Block dir noMove kind x (own x)) → Core X dir map noMove arena val kind own
+still d a m entries mapped owned = record {
+  entries256 = d;
+  words8192 = a;
+  is-map = m;
+  entries = entries;
+  mapped = mapped;
+  owned = owned;
+  idle = λ _. refl;
+  sides = λ b. absurd (no-sides b);
+  count = tt;
+  old-head = λ l. absurd l;
+  old-label = λ l. absurd l;
+  replica-head = λ l. absurd l;
+  replica-label = λ l. absurd l;
+  replica = λ _ f. absurd (f .0);
+}
+  where
+    no-sides : {c d : ℕ} → Sides noMove c d → ⊥
+    no-sides (early l) = l
+    no-sides (late l) = l
 
 -- a filled hold's cell: its header is plain and names the meter's entry t, or it is the moved record's, flagged
 pub data Cell (dir : List ℕ) (v : Move) (arena : List ℕ) (h m : ℕ) : Type 0 where
@@ -87,16 +115,11 @@ module _ {X : Type 0} {dir map : List ℕ} {v : Move} {arena : List ℕ} {val : 
   from-kind (early l) = let E = home-entry (early l) in omega (arith, E .label, E .kinded)
   from-kind (late l) = omega (arith, C .old-label l, home-entry (late l) .kinded)
 
-  -- a filled hold stands for a present meter, lies in the arena, and has its kind
+  -- a filled hold stands for a present meter, and has its kind
   pub held-in : {h m : ℕ} → HoldOK dir v h m → h ≢ none → entry dir m ≢ none
   held-in (empty e) n = absurd (n e)
   held-in (here r e) n = λ z. n (sym e ∙ z)
   held-in (was l e f) n = rw f (home-in (late l))
-
-  pub held-lt : {h m : ℕ} → HoldOK dir v h m → h ≢ none → h < 1024
-  held-lt (empty e) n = absurd (n e)
-  held-lt (here r e) n = r
-  held-lt (was l e f) n = rw e (side-lt (late l))
 
   pub held-kind : {h m : ℕ} → HoldOK dir v h m → h ≢ none → kindOf (label arena h) ≡ kind m
   held-kind (empty e) n = absurd (n e)

@@ -23,9 +23,10 @@ use Rattle.model.specs.Refusals.{accessRefusals}
 use Rattle.model.specs.Steps.{Step, Name, ATTACH, DETACH, OPEN, DROP, READ, WRITE, REST, ownRow, seated}
 use Rattle.model.proofs.Choice.{by-test, clash}
 use Rattle.model.proofs.Refusals.{Passed}
+use Rattle.model.proofs.Says.{getD-fresh}
 use Rattle.demands.specs.Log.{accessTo, Client, Account, newClient, clientOf, withHold, withPending, begins, doneBy, told}
 use Rattle.demands.proofs.Stages.{Late}
-use Rattle.demands.proofs.Lists.{getD-fresh, set-cases, set-both}
+use Rattle.demands.proofs.Lists.{set-cases, set-both}
 use Rattle.demands.proofs.Keeping.{Keeps, keeps}
 use Rattle.demands.proofs.Inv.{HoldOK, empty, here, at-entry, Asked, PhaseOK, rests, ready, waits, late, Core, Inv}
 use Rattle.demands.proofs.Blocks.{Cell, unflagged, flagged-cell, entry-range, side-lt, side-apart, held-kind, cell}

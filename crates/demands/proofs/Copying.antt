@@ -148,7 +148,8 @@ module _ {X : Type 0} {dir map : List ℕ} {v : Move} {arena : List ℕ} {val : 
       (cells (kind (v .meter))) j (S .owns) (S .owns) more b (λ _. (refl, n))
 
   new-word : word arena′ (v .target) (v .copied) ≡ replicaWord arena v
-  new-word = put-at arena (v .target) (v .copied) (replicaWord arena v) (cells (kind (v .meter))) (C .words8192) (C .sides (early l) .range) more
+  new-word =
+      put-at arena (v .target) (v .copied) (replicaWord arena v) (cells (kind (v .meter))) (C .words8192) (C .sides (early l) .range) more
 
   -- word j of the replica: the new one, or one that stood there
   replica-cases : (P : ℕ → ℕ → Type 0) (j : ℕ) → j ≤ v .copied → P (v .copied) (replicaWord arena v)
@@ -218,7 +219,8 @@ module _ {X : Type 0} (s : State) (g : Account) (I : Inv X s g) where
         r7 = r7-on l 3 tt;
         core = core 3 tt (eqb-true (rise (v .copied)) (wordsAt (s .arena) (v .from)) y ∙ size);
         rows = λ i. rw (cleared-get (s .table) i)
-            (goes-on-row 3 (rise (v .copied)) _ l tt same (cleared-passed (getD (s .table) i freshRow)) (λ y. absurd (beyond y)) (I .rows i));
+            (goes-on-row 3 (rise (v .copied)) _ l tt same (cleared-passed (getD (s .table) i freshRow)) (λ y. absurd (beyond y))
+            (I .rows i));
       })
       (λ y. record {
         own = I .own;

@@ -1,13 +1,13 @@
 -- The ways a step can go, found once; each count and promise is then read off them. Assumes nothing.
 use mathlib.Core.Path.{_≡_, refl}
 use mathlib.Core.Logic.{_≢_}
-use mathlib.Core.Bool.{Bool, true, false, not}
+use mathlib.Core.Bool.{true, false, not}
 use mathlib.Core.List.{List}
-use Prim.Native.Nat.{ℕ, zero, suc, pred, _+_, _*_, _≤_, _<_}
+use Prim.Native.Nat.{ℕ, suc, pred, _+_, _*_, _≤_, _<_}
 use native.Mathlib.Omega.{arith}
 use lib.Dec.{T, eqb, ltb}
-use lib.ListN.{getD, set}
-use borrow.Author.Tests.{eqb-true, eqb-false, ltb-true, ltb-false, not-true, not-false}
+use lib.ListN.{set}
+use borrow.Author.Tests.{eqb-true, eqb-false, ltb-true, ltb-false, not-false}
 use Rattle.model.specs.declared.Access.{Access}
 use Rattle.model.specs.declared.Access.the-variants.{Read, Write}
 use Rattle.model.specs.declared.Answer.{Answer}
@@ -31,15 +31,15 @@ use Rattle.model.specs.ClientSteps.{atHeader, loadHeader, swap, finish, go}
 use Rattle.model.specs.Rules.{isEarly}
 use Rattle.model.specs.Refusals.{Refusal, refuse}
 use Rattle.model.specs.Steps.{Step, Name, ADMIT, RETIRE, BEGIN, ADVANCE, ATTACH, DETACH, OPEN, DROP, READ, WRITE, GO, REST, UNKNOWN}
-use Rattle.model.specs.Steps.{NOBODY, keeperCodes, clientCodes, named, nameOf, ownRow, refusals, seated, effect, refused, act}
+use Rattle.model.specs.Steps.{NOBODY, nameOf, ownRow, refusals, seated, effect, refused, act}
 use Rattle.model.proofs.Choice.{by-test, clash}
 use Rattle.model.proofs.ByKind.{real}
+use Rattle.model.proofs.Parties.{ofKeeper, ofClient, keeper-who, client-who}
 use Rattle.model.proofs.CellMap.{lowest-free}
 use Rattle.model.proofs.Counts.{rise-is}
 use Rattle.model.proofs.Refusals.{Passed, numbers, each, by-refusals}
 use Rattle.demands.specs.Log.{accessTo, Account, clientOf}
 use Rattle.demands.proofs.Stages.{Idle, Early, idle-of}
-use Rattle.demands.proofs.Lists.{all-get}
 use Rattle.demands.proofs.Inv.{rests, ready, waits, Inv, early}
 use Rattle.demands.proofs.Blocks.{entry-range, home-real}
 use Rattle.demands.proofs.RowLaws.{oldHeader, PhaseIn, ReadyIn, one-early, phase-rests, row-in}
@@ -91,54 +91,6 @@ pub data Did (Right : Answer → Type 0) (s : State) (t : Step) : Outcome → Ty
   acts : {x : Answer} {r : Row} {arena : List ℕ} → 0 < t .who → t .who ≤ 8 → 30 ≤ number x
       → (Early (s .control .mv) → number x ≢ 33 → header arena (s .control .mv .from) ≡ oldHeader s) → Turn Right (ownRow s t) x r
       → Did Right s t (outcome x (withArena (withRow s (t .who) r) arena))
-
--- whose a step is
-abbrev ofKeeper : Name → Bool
-ofKeeper ADMIT = true
-ofKeeper RETIRE = true
-ofKeeper BEGIN = true
-ofKeeper ADVANCE = true
-ofKeeper ATTACH = false
-ofKeeper DETACH = false
-ofKeeper OPEN = false
-ofKeeper DROP = false
-ofKeeper READ = false
-ofKeeper WRITE = false
-ofKeeper GO = false
-ofKeeper REST = false
-ofKeeper UNKNOWN = false
-ofKeeper NOBODY = false
-
-abbrev ofClient : Name → Bool
-ofClient ADMIT = false
-ofClient RETIRE = false
-ofClient BEGIN = false
-ofClient ADVANCE = false
-ofClient ATTACH = true
-ofClient DETACH = true
-ofClient OPEN = true
-ofClient DROP = true
-ofClient READ = true
-ofClient WRITE = true
-ofClient GO = true
-ofClient REST = true
-ofClient UNKNOWN = false
-ofClient NOBODY = false
-
-keeper-who : (who code : ℕ) → ofKeeper (named who code) ≡ true → who ≡ 0
-keeper-who zero code e = refl
-keeper-who (suc client) code e =
-    clash (ofKeeper (named (suc client) code)) e
-    (by-test (λ (n : Name). ofKeeper n ≡ false) (ltb client 8)
-    (λ _. not-true (ofKeeper (getD clientCodes code UNKNOWN)) (all-get (λ n. not (ofKeeper n)) clientCodes UNKNOWN refl refl code))
-    (λ _. refl))
-
-client-who : (who code : ℕ) → ofClient (named who code) ≡ true → (0 < who) × (who ≤ 8)
-client-who zero code e = clash (ofClient (named zero code)) e
-    (not-true (ofClient (named zero code)) (all-get (λ n. not (ofClient n)) keeperCodes UNKNOWN refl refl code))
-client-who (suc client) code e =
-    by-test (λ (n : Name). ofClient n ≡ true → (0 < suc client) × (suc client ≤ 8)) (ltb client 8)
-    (λ y _. let b = ltb-true client 8 y in (omega arith, omega arith)) (λ _ z. clash false z refl) e
 
 -- what is said of the answers 34 and 35: they end the access that the log says is open, a read or a write; and a read's value is the last
 -- one written

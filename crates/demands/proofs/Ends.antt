@@ -27,7 +27,7 @@ use Rattle.demands.proofs.Stages.{Early, Late, not-both}
 use Rattle.demands.proofs.Owners.{repaint, repaint-cases, owns-keep, mapped-run}
 use Rattle.demands.proofs.Inv.{Flag, HoldOK, empty, here, was, RowOK, HeadOK, own-head, flag-head, Sides, early, late, Block}
 use Rattle.demands.proofs.Inv.{in-entry, in-other, Core, Inv}
-use Rattle.demands.proofs.Blocks.{meter-lt, from-kind}
+use Rattle.demands.proofs.Blocks.{still, meter-lt, from-kind}
 use Rattle.demands.proofs.Entries.{carry-entry}
 use Rattle.demands.proofs.RowLaws.{one-early, one-not, carry-phase, passed-get}
 use Rattle.demands.proofs.Keeping.{Good, Keeps, keeps}
@@ -52,33 +52,17 @@ module _ {X : Type 0} {dir map : List ℕ} {v : Move} {arena : List ℕ} {val : 
 
   pub ended-core : Core X dir (putRun map d (cells (kind (v .meter))) 0) noMove arena val kind
       (repaint own d (cells (kind (v .meter))) none)
-  ended-core = record {
-    entries256 = C .entries256;
-    words8192 = C .words8192;
-    is-map = run-map map d n 0 (C .is-map) (omega arith);
-    entries = λ m y.
-        let E = C .entries m y in
-        carry-entry E (owns-keep own d n none m (entry dir m) (cells (kind m))
-        (λ x p q e. omega (arith, C .sides b .owns x p q, meter-lt C m y)) (E .owns)) (plain-head (E .head)) (λ j _ _. refl);
-    mapped = mapped-run own map d n none 0 (C .is-map) (C .sides b .range) (omega arith) refl (C .mapped);
-    owned = λ x. repaint-cases (λ (i : ℕ). i ≢ none → Block dir noMove kind x i) own d n none x (λ _ _ e. absurd (e refl))
-        (λ o i. keep-block o (C .owned x i));
-    idle = λ _. refl;
-    sides = λ y. absurd (nowhere y);
-    count = tt;
-    old-head = λ y. absurd y;
-    old-label = λ y. absurd y;
-    replica-head = λ y. absurd y;
-    replica-label = λ y. absurd y;
-    replica = λ _ f. absurd (f .0);
-  }
+  ended-core =
+      still (C .entries256) (C .words8192) (run-map map d n 0 (C .is-map) (omega arith))
+      (λ m y. let E = C .entries m y in
+      carry-entry E (owns-keep own d n none m (entry dir m) (cells (kind m))
+      (λ x p q e. omega (arith, C .sides b .owns x p q, meter-lt C m y)) (E .owns)) (plain-head (E .head)) (λ j _ _. refl))
+      (mapped-run own map d n none 0 (C .is-map) (C .sides b .range) (omega arith) refl (C .mapped))
+      (λ x. repaint-cases (λ (i : ℕ). i ≢ none → Block dir noMove kind x i) own d n none x (λ _ _ e. absurd (e refl))
+      (λ o i. keep-block o (C .owned x i)))
     where
       n : ℕ
       n = cells (kind (v .meter))
-
-      nowhere : {c d : ℕ} → Sides noMove c d → ⊥
-      nowhere (early y) = y
-      nowhere (late y) = y
 
       keep-block : {x i : ℕ} → (d ≤ x → x < d + cells (kind (v .meter)) → ⊥) → Block dir v kind x i → Block dir noMove kind x i
       keep-block o (in-entry p q r) = in-entry p q r

@@ -33,7 +33,7 @@ use Rattle.demands.proofs.Inv.{Flag, HoldOK, empty, here, was, Place, a
 use Rattle.demands.proofs.Inv.{early, late, Core, Inv}
 use Rattle.demands.proofs.Blocks.{meter-lt, home-in, home-entry, home-real, side-apart, copied-fit, first-uncopied, held-in}
 use Rattle.demands.proofs.Keeping.{Keeps, keeps}
-use Rattle.demands.proofs.RowLaws.{oldHeader, PhaseIn, ReadyIn, RowIn, reflag-row, row-in}
+use Rattle.demands.proofs.RowLaws.{oldHeader, PhaseIn, ReadyIn, RowIn, reflag-row, row-in, with-rows}
 use Rattle.demands.proofs.Swaps.{swap-inv}
 
 -- the block that an access to meter m goes to: owner i's, at cell c
@@ -190,14 +190,9 @@ module _ {X : Type 0} (s : State) (g : Account) (t : Step) (I : Inv X s g) (seat
 
   finish-inv : (c : ℕ) (x : Access) → ReadyIn X s g t c x
       → Next (finish (s .arena) (ownRow s t) c x)
-  finish-inv c (Read h w) W = rw (W .asked .pending) (record {
-    own = I .own;
-    core = I .core;
-    eight = length-set (s .table) (pred (t .who)) _ ∙ I .eight;
-    r7 = I .r7;
-    small = I .small;
-    rows = rested c (Read h w) W (oldHeader s) (λ _. refl);
-  })
+  finish-inv c (Read h w) W =
+      rw (W .asked .pending)
+      (with-rows I _ _ (length-set (s .table) (pred (t .who)) _ ∙ I .eight) (rested c (Read h w) W (oldHeader s) (λ _. refl)))
   finish-inv c (Write h w u) W = rw (W .asked .pending) (let S = spot-of c (Write h w u) W in record {
     own = I .own;
     eight = length-set (s .table) (pred (t .who)) _ ∙ I .eight;

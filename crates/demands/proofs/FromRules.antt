@@ -131,27 +131,21 @@ module _ (s : State) (Z : Sizes s) (S : Sound s) where
   own-other {d} h e x p q =
       owner-other dir v arena (s .control .map) (S .r3) (Z .entries) x (omega arith) (e x ∙ covers-in d (cells (kindIn s (v .meter))) x p q)
 
+  side-right : {c d : ℕ} → Sides v c d → entry dir (v .meter) ≢ none → entry dir (v .meter) ≡ c → d + cellsAt arena (v .from) ≤ 1024
+      → ((x : ℕ) → otherOver v arena x ≡ covers d (cellsAt arena (v .from)) x) → SidesOK dir v (kindIn s) own c d
+  side-right {c} {d} b present home within over =
+      let k = from-cells b in
+      let h : d + cells (kindIn s (v .meter)) ≤ 1024 = omega arith in
+      record {
+        home = home;
+        inside = omega (arith, entry-lt (v .meter) present);
+        range = h;
+        owns = own-other h (λ x. over x ∙ ap (λ (n : ℕ). covers d n x) k);
+      }
+
   sides-of : {c d : ℕ} → Sides v c d → SidesOK dir v (kindIn s) own c d
-  sides-of (early l) =
-      let E = S .r2 .early l in
-      let k = from-cells (early l) in
-      let h : v .target + cells (kindIn s (v .meter)) ≤ 1024 = omega (arith, E .within) in
-      record {
-        home = E .old;
-        inside = omega (arith, entry-lt (v .meter) (E .present), E .old);
-        range = h;
-        owns = own-other h (λ x. other-early v arena x l ∙ ap (λ (n : ℕ). covers (v .target) n x) k);
-      }
-  sides-of (late l) =
-      let L = S .r2 .late l in
-      let k = from-cells (late l) in
-      let h : v .from + cells (kindIn s (v .meter)) ≤ 1024 = omega (arith, L .within) in
-      record {
-        home = L .new;
-        inside = omega (arith, entry-lt (v .meter) (L .present), L .new);
-        range = h;
-        owns = own-other h (λ x. other-late v arena x l ∙ ap (λ (n : ℕ). covers (v .from) n x) k);
-      }
+  sides-of (early l) = let E = S .r2 .early l in side-right (early l) (E .present) (E .old) (E .within) (λ x. other-early v arena x l)
+  sides-of (late l) = let L = S .r2 .late l in side-right (late l) (L .present) (L .new) (L .within) (λ x. other-late v arena x l)
 
   block-of : (x : ℕ) {i : ℕ} → Owner dir v arena x i → i ≢ none → Block dir v (kindIn s) x i
   block-of x (beyond p) n = absurd (n refl)

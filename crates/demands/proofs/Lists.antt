@@ -5,7 +5,7 @@ use mathlib.Core.Bool.{Bool, true, false}
 use mathlib.Core.List.{List, [], _∷_}
 use Prim.Native.Nat.{ℕ, zero, suc, _<_}
 use native.Mathlib.Omega.{arith}
-use lib.ListN.{length, getD, set, replicate}
+use lib.ListN.{length, getD, set}
 use lib.Seq.{getD-set-same, getD-set-other}
 use borrow.Author.Tests.{eq-eqb, ne-eqb}
 use Rattle.model.specs.Choice.{_and_, _or_, any, all}
@@ -17,11 +17,6 @@ pub getD-in : (l : List ℕ) (i d : ℕ) → getD l i d ≢ d → i < length l
 getD-in [] i d n = absurd (n refl)
 getD-in (x ∷ l) zero d n = omega arith
 getD-in (x ∷ l) (suc i) d n = let r = getD-in l i d n in omega arith
-
-pub getD-fresh : {A : Type 0} (n i : ℕ) (x : A) → getD (replicate n x) i x ≡ x
-getD-fresh zero i x = refl
-getD-fresh (suc n) zero x = refl
-getD-fresh (suc n) (suc i) x = getD-fresh n i x
 
 or-parts : (p q : Bool) → (p or q) ≡ false → (p ≡ false) × (q ≡ false)
 or-parts true q e = clash true refl e

@@ -13,28 +13,38 @@ use Rattle.model.specs.Answers.{Outcome, value}
 use Rattle.model.specs.Steps.{Step, act}
 use Rattle.model.specs.Calls.{stepCall}
 use Rattle.model.proofs.Choice.{clash}
-use Rattle.demands.specs.Log.{Line, line, Log, Pending, accessTo, Account, said, after, log}
-use Rattle.demands.specs.Promises.{reached, history, EachLine, LastWrite, ReadRight, AccessPrice, MovePrice, Demand2, Demand3, SoundKept, ReachedSound, RunIsSteps}
+use Rattle.demands.specs.Log.{Line, line, Log, Program, reachedBy, historyBy, after, log, Pending, accessTo, Account, said}
+use Rattle.demands.specs.Promises.{reached, history, EachLine, LastWrite, ReadRight, AccessPrice, MovePrice, Demand2, Demand3}
+use Rattle.demands.specs.Promises.{SoundKept, ReachedSound, RunIsSteps}
 use Rattle.demands.proofs.Kept.{sound-kept, after-sound}
 use Rattle.demands.proofs.Runs.{step-after, run-is-steps}
 use Rattle.demands.proofs.LastWritten.{access-finished}
 use Rattle.demands.proofs.MoveCounts.{begun-is-answered, committed-is-answered, aborted-is-answered, call-off-takes, give-back-takes}
-use Rattle.demands.proofs.SwapCounts.{swaps-are-answered, slot-swaps-at-most-begun, all-swaps-at-most-begun, called-off-at-most-swaps}
+use Rattle.demands.proofs.SwapCounts.{swaps-are-answered, slot-swaps-at-most-begun, all-swaps-at-most-begun}
+use Rattle.demands.proofs.SwapCounts.{called-off-at-most-swaps}
 use Rattle.demands.proofs.Accesses.{access-heard}
 
+-- two programs that agree on what the second reaches reach the same, and have the same history
+module _ (f g : Program) (same : (l : List Step) (t : Step) → f (reachedBy g l) t ≡ g (reachedBy g l) t) where
+  pub same-step : (l : List Step) (t : Step) → reachedBy f l ≡ reachedBy g l → f (reachedBy f l) t ≡ g (reachedBy g l) t
+  same-step l t e = ap (λ (s : State). f s t) e ∙ same l t
+
+  pub same-state : (l : List Step) → reachedBy f l ≡ reachedBy g l
+  same-state [] = refl
+  same-state (t ∷ l) = ap (λ (o : Outcome). o .next) (same-step l t (same-state l))
+
+  pub same-history : (l : List Step) → historyBy f l ≡ historyBy g l
+  same-history [] = refl
+  same-history (t ∷ l) =
+      ap (λ (o : Outcome). line t (o .answer) ∷ historyBy f l) (same-step l t (same-state l))
+      ∙ ap (λ (h : Log). line t (g (reachedBy g l) t .answer) ∷ h) (same-history l)
+
 -- on what is reached from fresh the step with its tests is `act`
-step-reached : (l : List Step) (t : Step) → reached l ≡ after l → stepCall (reached l) t ≡ act (after l) t
-step-reached l t e = ap (λ (s : State). stepCall s t) e ∙ step-after l t
-
 pub reached-is : (l : List Step) → reached l ≡ after l
-reached-is [] = refl
-reached-is (t ∷ l) = ap (λ (o : Outcome). o .next) (step-reached l t (reached-is l))
+reached-is = same-state stepCall act step-after
 
-pub history-is : (l : List Step) → history l ≡ log l
-history-is [] = refl
-history-is (t ∷ l) =
-    ap (λ (o : Outcome). line t (o .answer) ∷ history l) (step-reached l t (reached-is l))
-    ∙ ap (λ (h : Log). line t (act (after l) t .answer) ∷ h) (history-is l)
+history-is : (l : List Step) → history l ≡ log l
+history-is = same-history stepCall act step-after
 
 -- what holds of each line of a log holds of a history
 each-line : (P : Line → Log → Type 0) → ((l : List Step) (t : Step) → P (line t (act (after l) t .answer)) (log l))

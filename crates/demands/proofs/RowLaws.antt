@@ -1,11 +1,13 @@
 -- How one row's part of the invariant is read, made and carried from step to step. Assumes nothing.
 use mathlib.Core.Path.{_≡_, refl, _∙_, subst⁻¹}
+use mathlib.Core.Logic.{_≢_}
 use mathlib.Core.Bool.{Bool, true, false, not}
 use mathlib.Core.List.{List}
 use Prim.Native.Nat.{ℕ, pred, _≤_, _<_}
 use native.Mathlib.Omega.{arith}
 use lib.Dec.{T}
-use lib.ListN.{length, getD, length-set, List·getD-map}
+use lib.ListN.{length, getD, set, length-set, List·getD-map}
+use lib.Seq.{getD-set-other}
 use Rattle.model.specs.declared.Access.{Access}
 use Rattle.model.specs.declared.Phase.{Phase}
 use Rattle.model.specs.declared.Phase.the-variants.{Resting, Ready}
@@ -13,14 +15,15 @@ use Rattle.model.specs.declared.Row.{Row}
 use Rattle.model.specs.declared.Move.{Move}
 use Rattle.model.specs.Choice.{one}
 use Rattle.model.specs.Records.{none, header}
-use Rattle.model.specs.Rows.{busy, hold, freshRow, withPassed, cleared, clearMarks, hasPassed, allPassed}
-use Rattle.model.specs.State.{State, withRow}
+use Rattle.model.specs.Rows.{holdOf, busy, hold, freshRow, withPassed, cleared, clearMarks, hasPassed, allPassed}
+use Rattle.model.specs.State.{entry, State, withTable, withRow}
 use Rattle.model.specs.Steps.{Step, ownRow}
 use Rattle.model.proofs.Choice.{clash}
 use Rattle.demands.specs.Log.{noAccess, Client, Account, newClient, clientOf, withClient}
 use Rattle.demands.proofs.Lists.{set-cases, set-both, all-get}
 use Rattle.demands.proofs.Blocks.{side-lt}
-use Rattle.demands.proofs.Inv.{Flag, empty, ReadyOK, WaitingOK, PhaseOK, rests, ready, waits, Detached, RowOK, late, Inv}
+use Rattle.demands.proofs.Inv.{Flag, HoldOK, empty, here, was, Place, at-entry, at-hold, Asked, ReadyOK, WaitingOK, PhaseOK}
+use Rattle.demands.proofs.Inv.{rests, ready, waits, Detached, RowOK, late, Rows, Inv}
 
 -- what the invariant says, in state s, of row r and client q, and of the phase of the row whose step it is
 abbrev pub oldHeader : State → ℕ
@@ -79,6 +82,43 @@ reflag-row f R = record {
       (R .phase);
 }
 
+-- a row whose filled holds were opened on other meters than a, when a's entry and kind change
+pub redirected-row : {X : Type 0} {dir : List ℕ} {v : Move} {kind kind′ : ℕ → ℕ} {h b : ℕ} {r : Row} {q : Client} (a c : ℕ)
+    → ((i : ℕ) → hold r i ≢ none → q .opened i ≢ a)
+    → ((m : ℕ) → m ≢ a → kind′ m ≡ kind m) → RowOK X dir v kind h b r q → RowOK X (set dir a c) v kind′ h b r q
+redirected-row {dir = dir} {v = v} {kind = kind} {kind′ = kind′} {r = r} {q = q} a c off same R = record {
+  four = R .four;
+  holds = λ i. keep-hold (off i) (R .holds i);
+  detached = R .detached;
+  passed = R .passed;
+  le = R .le;
+  lt = R .lt;
+  phase = carry-phase (λ e. e)
+      (λ d x _ W. let z = off _ (W .asked .filled) in record {
+        asked = keep-ask z (W .asked);
+        place = keep-place z (W .place);
+        newest = λ y. keep-entry _ z ∙ W .newest y;
+        away = W .away;
+      })
+      (λ d x W. record { asked = keep-ask (off _ (W .asked .filled)) (W .asked); held = W .held; owes = W .owes; elsewhere = W .elsewhere })
+      (R .phase);
+}
+  where
+    keep-entry : (m : ℕ) → m ≢ a → entry (set dir a c) m ≡ entry dir m
+    keep-entry m n = getD-set-other dir a m c none n
+
+    keep-hold : {h m : ℕ} → (h ≢ none → m ≢ a) → HoldOK dir v h m → HoldOK (set dir a c) v h m
+    keep-hold n (empty e) = empty e
+    keep-hold {h} {m} n (here u e) = here u (keep-entry m (n (λ z. omega arith)) ∙ e)
+    keep-hold n (was l e f) = was l e f
+
+    keep-place : {h m d : ℕ} → m ≢ a → Place dir h m d → Place (set dir a c) h m d
+    keep-place {h} {m} n (at-entry e) = at-entry (keep-entry m n ∙ e)
+    keep-place n (at-hold e) = at-hold e
+
+    keep-ask : {h : ℕ} {x : Access} → q .opened (holdOf x) ≢ a → Asked kind h q x → Asked kind′ h q x
+    keep-ask n A = record { pending = A .pending; filled = A .filled; fits = rw (same _ n) (A .fits) }
+
 -- marks: a row with another mark, which an unattached one keeps; a table with its marks cleared; a table whose rows have all passed
 pub marked : (r : Row) (p : Bool) → (r .attached ≡ false → p ≡ true) → (r .attached ≡ false → Detached r) → r .attached ≡ false
     → Detached (withPassed r p)
@@ -111,25 +151,25 @@ module _ {X : Type 0} {s : State} {g : Account} (I : Inv X s g) where
     phase = subst⁻¹ (PhaseOK X _ _ _ _ _ r newClient) e (rests refl);
   }
 
+  -- other rows, against other clients
+  pub with-rows : (table : List Row) (clients : ℕ → Client) → length table ≡ 8
+      → Rows X (s .control .dir) (s .control .mv) (g .kind) (oldHeader s) (s .control .begun) table clients
+      → Inv X (withTable s table) (record { lastWritten = g .lastWritten; kind = g .kind; clients = clients })
+  with-rows table clients n rows =
+      record { own = I .own; core = I .core; eight = n; r7 = I .r7; small = I .small; rows = rows }
+
   -- a client's own row, with or without a new word from the log
   module _ (t : Step) (seat : pred (t .who) < 8) (r : Row) where
+    eight-rows : length (set (s .table) (pred (t .who)) r) ≡ 8
+    eight-rows = length-set (s .table) (pred (t .who)) r ∙ I .eight
+
     pub seat-row : (q : Client) → RowIn X s g r q → Inv X (withRow s (t .who) r) (withClient g t q)
-    seat-row q ok = record {
-      own = I .own;
-      core = I .core;
-      eight = length-set (s .table) (pred (t .who)) r ∙ I .eight;
-      r7 = I .r7;
-      small = I .small;
-      rows = set-both (RowIn X s g) (s .table) (g .clients) (pred (t .who)) r q freshRow (omega (arith, I .eight)) ok (I .rows);
-    }
+    seat-row q ok =
+        with-rows _ _ eight-rows
+        (set-both (RowIn X s g) (s .table) (g .clients) (pred (t .who)) r q freshRow (omega (arith, I .eight)) ok (I .rows))
 
     pub reseat-row : RowIn X s g r (clientOf g t) → Inv X (withRow s (t .who) r) g
-    reseat-row ok = record {
-      own = I .own;
-      core = I .core;
-      eight = length-set (s .table) (pred (t .who)) r ∙ I .eight;
-      r7 = I .r7;
-      small = I .small;
-      rows = set-cases (λ j x. RowIn X s g x (g .clients j)) (s .table) (pred (t .who)) r freshRow (omega (arith, I .eight)) ok
-          (λ j _. I .rows j);
-    }
+    reseat-row ok =
+        with-rows _ (g .clients) eight-rows
+        (set-cases (λ j x. RowIn X s g x (g .clients j)) (s .table) (pred (t .who)) r freshRow (omega (arith, I .eight)) ok
+        (λ j _. I .rows j))

@@ -10,26 +10,16 @@ use Rattle.model.specs.State.{State}
 use Rattle.model.specs.Answers.{Outcome}
 use Rattle.model.specs.Steps.{Step, act}
 use Rattle.model.specs.Rules.{firstBroken}
-use Rattle.model.specs.Calls.{wrongSize, unsound, stepCall, Ran, ran, then, oneByOne, stepsFrom, stepsOf, runSizes, runCall}
+use Rattle.model.specs.Calls.{wrongSize, stepCall, Ran, ran, then, oneByOne, stepsFrom, stepsOf, runSizes, runCall}
 use Rattle.model.proofs.Choice.{by-test}
-use Rattle.model.proofs.Says.{says-eq, says-not}
 use Rattle.model.proofs.Sizes.{Sizes, right-size}
+use Rattle.model.proofs.Calls.{sound-passes, unsound-fails, step-sound}
 use Rattle.demands.specs.Log.{after}
 use Rattle.demands.proofs.Kept.{sound-kept, sizes-kept, after-sound, after-sizes}
 
--- a state that breaks no rule is not refused by 2
-pub sound-passes : (s : State) → firstBroken s ≡ 0 → unsound s ≡ false
-unfolding unsound
-sound-passes s e = rw e refl
-
-pub unsound-fails : (s : State) → firstBroken s ≢ 0 → unsound s ≡ true
-unfolding unsound
-unsound-fails s n = says-not (says-eq (firstBroken s) 0) .test n
-
 -- on a sound state a step is what `act` does
 pub step-is-act : (s : State) (t : Step) → Sizes s → firstBroken s ≡ 0 → stepCall s t ≡ act s t
-unfolding stepCall
-step-is-act s t Z e = rw (right-size s Z, sound-passes s e) refl
+step-is-act s t Z e = step-sound s (right-size s Z) t e
 
 -- 1 and 2 refuse the whole run: the answer slots and the state stay as they are
 pub run-wrong-size : (s : State) (ws slots : List ℕ) → wrongSize s ≡ true → runCall s ws slots ≡ ran (Refused 1) slots s

@@ -11,21 +11,23 @@ use borrow.Author.Tests.{eq-eqb, ne-eqb}
 use Rattle.model.specs.declared.Answer.{Answer}
 use Rattle.model.specs.declared.Answer.the-variants.{Refused, BarrierOpen}
 use Rattle.model.specs.declared.Row.{Row}
-use Rattle.model.specs.Choice.{one, total}
+use Rattle.model.specs.Choice.{total}
 use Rattle.model.specs.Records.{flagged}
 use Rattle.model.specs.Rows.{freshRow, clearMarks}
 use Rattle.model.specs.State.{State}
 use Rattle.model.specs.Answers.{number, Outcome}
 use Rattle.model.specs.Steps.{Step}
 use Rattle.model.proofs.Choice.{same-or-not}
+use Rattle.model.proofs.Says.{getD-fresh}
 use Rattle.demands.specs.Log.{line, Log, after, log, said, answered, answeredTo}
 use Rattle.demands.proofs.Stages.{Early}
-use Rattle.demands.proofs.Lists.{getD-fresh, set-cases, and-false}
+use Rattle.demands.proofs.Lists.{set-cases, and-false}
 use Rattle.demands.proofs.RowLaws.{oldHeader, cleared-get}
 use Rattle.demands.proofs.Did.{Turn, handles, readies, waits-on, swaps, ends, SameRows, same, cleared, Did, refuses, stays, keeps}
 use Rattle.demands.proofs.Did.{acts, Kept, admits, retires, begins, starts, copies, fills, commits, calls-off, gives-back, did}
 use Rattle.demands.proofs.Always.{always}
-use Rattle.demands.proofs.MoveCounts.{answered-other, begun-is-answered, aborted-is-answered}
+use Rattle.demands.proofs.Counted.{hits}
+use Rattle.demands.proofs.MoveCounts.{begun-is-answered, aborted-is-answered}
 
 abbrev pub swapsOf : Row → ℕ
 swapsOf r = r .swaps
@@ -52,11 +54,7 @@ pub same-swaps : {k k′ : List Row} → SameRows k k′ → (i : ℕ) → getD 
 same-swaps same i = refl
 same-swaps {k} cleared i = ap swapsOf (cleared-get k i)
 
--- 1 for the answer 33
-abbrev pub swapped : Answer → ℕ
-swapped x = one (eqb (number x) 33)
-
-pub turn-swaps : {Right : Answer → Type 0} {r r′ : Row} {x : Answer} → Turn Right r x r′ → r′ .swaps ≡ r .swaps + swapped x
+pub turn-swaps : {Right : Answer → Type 0} {r r′ : Row} {x : Answer} → Turn Right r x r′ → r′ .swaps ≡ r .swaps + hits 33 x
 turn-swaps {x = x} (handles e f _) = rw (ne-eqb (number x) 33 (omega arith)) (omega arith)
 turn-swaps {x = x} (readies e f _) = rw (ne-eqb (number x) 33 (omega arith)) (omega arith)
 turn-swaps {x = x} (waits-on e f _) = rw (ne-eqb (number x) 33 (omega arith)) (omega arith)
@@ -71,7 +69,7 @@ unswapped : {k k′ : List Row} {l : Log} (t : Step) (x : Answer) → SameRows k
     → SwapsTold k′ (line t x ∷ l)
 unswapped {l = l} t x r n m = record {
   slots = λ i. same-swaps r i ∙ m .slots i ∙ sym (rw (ne-eqb (number x) 33 n, and-false (eqb (t .who) (suc i))) (omega arith));
-  sum = same-total r ∙ m .sum ∙ sym (answered-other t x l 33 n);
+  sum = same-total r ∙ m .sum ∙ sym (rw (ne-eqb (number x) 33 n) (omega arith));
 }
 
 did-told : {Right : Answer → Type 0} {s : State} {t : Step} {o : Outcome} {l : Log} → length (s .table) ≡ 8 → Did Right s t o
@@ -118,7 +116,7 @@ did-swapped {s = s} {t = t} e (acts {x = x} {r = r} p q _ h u) m =
     let more = turn-swaps u in
     record {
       off = omega (arith, m .off);
-      gone = λ l n. ⊎-elim (λ (y : number x ≡ 33). let one33 : swapped x ≡ 1 = rw (eq-eqb (number x) 33 y) refl in omega (arith, m .off))
+      gone = λ l n. ⊎-elim (λ (y : number x ≡ 33). let one33 : hits 33 x ≡ 1 = rw (eq-eqb (number x) 33 y) refl in omega (arith, m .off))
           (λ (y : number x ≢ 33). omega (arith, m .gone l (λ k. n (h l y ∙ k)))) (same-or-not (number x) 33);
     }
 

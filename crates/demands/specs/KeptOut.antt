@@ -6,16 +6,11 @@ use Rattle.model.specs.declared.Answer.{Answer}
 use Rattle.model.specs.declared.Answer.the-variants.{Refused}
 use Rattle.model.specs.Records.{word}
 use Rattle.model.specs.State.{State}
-use Rattle.model.specs.Answers.{Outcome}
-use Rattle.model.specs.Fresh.{fresh}
 use Rattle.model.specs.KeeperSteps.{moveOf}
 use Rattle.model.specs.Steps.{Step, step}
 use Rattle.model.specs.Calls.{stepCall}
-use Rattle.demands.specs.Log.{line, Log}
+use Rattle.demands.specs.Log.{Program, reachedBy, historyBy}
 use Rattle.demands.specs.Promises.{reached, CountsTrue}
-
-abbrev pub Program : Type 0
-Program = State → Step → Outcome
 
 -- what the contract of a step asks
 abbrev pub Meets : Program → Type 0
@@ -48,14 +43,6 @@ CopiesAtOnce f =
     ≡ word (reached aboutToCopy .arena) (moveOf (reached aboutToCopy) .from) 1
 
 -- "One inventing swap or move counts": after some steps of it from fresh the counts are not those of its answers
-abbrev pub reachedBy : Program → List Step → State
-reachedBy f [] = fresh
-reachedBy f (t ∷ l) = f (reachedBy f l) t .next
-
-abbrev pub historyBy : Program → List Step → Log
-historyBy f [] = []
-historyBy f (t ∷ l) = line t (f (reachedBy f l) t .answer) ∷ historyBy f l
-
 abbrev pub InventsCounts : Program → Type 0
 InventsCounts f = (l : List Step) × ¬ (CountsTrue (reachedBy f l) (historyBy f l))
 

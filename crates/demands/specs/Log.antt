@@ -1,4 +1,4 @@
--- The log: the steps from fresh with what each was answered, and what it says. No word of the arena stands here.
+-- The log: steps from fresh with what each was answered, and what it says of meters, clients and moves. No word of the arena stands here.
 use mathlib.Core.List.{List, [], _∷_}
 use Prim.Native.Nat.{ℕ, suc, pred}
 use lib.Dec.{eqb, leb}
@@ -7,11 +7,11 @@ use Rattle.model.specs.declared.Access.the-variants.{Read, Write}
 use Rattle.model.specs.declared.Answer.{Answer}
 use Rattle.model.specs.declared.Answer.the-variants.{Refused, Admitted, Begun, BarrierOpen, CopyingStarts, Copied, Committed, CalledOff}
 use Rattle.model.specs.declared.Answer.the-variants.{GivenBack, Done, ReadyAt, WaitsOn, SwapWon, SwapLost, Got, Written}
-use Rattle.model.specs.Choice.{pick, _and_, _or_, one, total}
+use Rattle.model.specs.Choice.{pick, _and_, one, total}
 use Rattle.model.specs.Records.{none}
-use Rattle.model.specs.Rows.{holdOf, wordOf}
+use Rattle.model.specs.Rows.{holdOf}
 use Rattle.model.specs.State.{State}
-use Rattle.model.specs.Answers.{number}
+use Rattle.model.specs.Answers.{number, Outcome}
 use Rattle.model.specs.Fresh.{fresh}
 use Rattle.model.specs.Steps.{Step, Name, ADMIT, RETIRE, BEGIN, ADVANCE, ATTACH, DETACH, OPEN, DROP, READ, WRITE, GO, REST, UNKNOWN}
 use Rattle.model.specs.Steps.{NOBODY, nameOf, act}
@@ -27,14 +27,24 @@ Log = List Line
 abbrev pub line : Step → Answer → Line
 line t x = record { step = t; answer = x }
 
--- the state after some steps from fresh, and their log, both with the last step first
+-- a step, as some program makes it: the state that some steps of it reach from fresh, and their log, both with the last step first
+abbrev pub Program : Type 0
+Program = State → Step → Outcome
+
+abbrev pub reachedBy : Program → List Step → State
+reachedBy f [] = fresh
+reachedBy f (t ∷ l) = f (reachedBy f l) t .next
+
+abbrev pub historyBy : Program → List Step → Log
+historyBy f [] = []
+historyBy f (t ∷ l) = line t (f (reachedBy f l) t .answer) ∷ historyBy f l
+
+-- by `act`, the step without its tests of sizes and soundness, which on these states find nothing
 abbrev pub after : List Step → State
-after [] = fresh
-after (t ∷ l) = act (after l) t .next
+after l = reachedBy act l
 
 abbrev pub log : List Step → Log
-log [] = []
-log (t ∷ l) = line t (act (after l) t .answer) ∷ log l
+log l = historyBy act l
 
 -- the access that a client has begun and not finished: its meter, and what was asked
 pub data Pending : Type 0 where
@@ -136,11 +146,6 @@ abbrev pub said : Log → Account
 said [] = newAccount
 said (x ∷ l) = told (nameOf (x .step)) (said l) (x .step) (x .answer)
 
--- the last value written to the word of an access
-abbrev pub lastFor : Account → Pending → ℕ
-lastFor g noAccess = 0
-lastFor g (accessTo m x) = g .lastWritten m (wordOf x)
-
 -- how many lines have the answer n; how many of party who's lines
 abbrev pub answered : ℕ → Log → ℕ
 answered n l = total (λ x. one (eqb (number (x .answer)) n)) l
@@ -162,10 +167,5 @@ lastMoved (x ∷ l) = pick (eqb (number (x .answer)) 21) (x .step .a) (lastMoved
 -- the answers of a client's own accepted steps, the last first
 abbrev pub ownAnswers : ℕ → Log → List ℕ
 ownAnswers who [] = []
-ownAnswers who (x ∷ l) = pick (eqb (x .step .who) who and leb 20 (number (x .answer))) (number (x .answer) ∷ ownAnswers who l)
-    (ownAnswers who l)
-
--- how many of them there are back to the READ or WRITE that was answered last
-abbrev pub sinceAsked : List ℕ → ℕ
-sinceAsked [] = 0
-sinceAsked (n ∷ l) = pick (eqb n 31 or eqb n 32) 1 (suc (sinceAsked l))
+ownAnswers who (x ∷ l) =
+    pick (eqb (x .step .who) who and leb 20 (number (x .answer))) (number (x .answer) ∷ ownAnswers who l) (ownAnswers who l)

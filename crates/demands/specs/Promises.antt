@@ -10,21 +10,19 @@ use Rattle.model.specs.Kinds.{words}
 use Rattle.model.specs.Rows.{freshRow}
 use Rattle.model.specs.State.{State}
 use Rattle.model.specs.Answers.{number, value}
-use Rattle.model.specs.Fresh.{fresh}
 use Rattle.model.specs.Steps.{Step, act}
 use Rattle.model.specs.Rules.{firstBroken}
 use Rattle.model.specs.Calls.{stepCall, runCall, runSizes, oneByOne, stepsOf}
 use Rattle.model.proofs.Sizes.{Sizes}
-use Rattle.demands.specs.Log.{Line, line, Log, Pending, noAccess, accessTo, Account, clientOf, said, answered, answeredTo, workingSteps, lastMoved, ownAnswers}
+use Rattle.demands.specs.Log.{Line, Log, reachedBy, historyBy, Pending, noAccess, accessTo, Account, clientOf, said}
+use Rattle.demands.specs.Log.{answered, answeredTo, workingSteps, lastMoved, ownAnswers}
 
--- the state that some steps reach from fresh, and their history: the last step stands first
+-- by the library's step: the state that some steps reach from fresh, and their history, the last step first
 abbrev pub reached : List Step → State
-reached [] = fresh
-reached (t ∷ l) = stepCall (reached l) t .next
+reached l = reachedBy stepCall l
 
 abbrev pub history : List Step → Log
-history [] = []
-history (t ∷ l) = line t (stepCall (reached l) t .answer) ∷ history l
+history l = historyBy stepCall l
 
 -- P holds of each line, beside the lines before it
 abbrev pub EachLine : (Line → Log → Type 0) → Log → Type 0

@@ -1,4 +1,4 @@
--- What every step has in common: its refusals rise, its answer is one of 01's numbers, and a refused step changes nothing.
+-- What every step has in common: its answer is one of 01's numbers, and a refused step changes nothing.
 -- Assumes nothing.
 use mathlib.Core.Path.{_≡_, refl, sym, ap, subst}
 use mathlib.Core.Bool.{Bool}
@@ -20,33 +20,18 @@ use Rattle.model.specs.Answers.{Outcome, number, value}
 use Rattle.model.specs.ClientSteps.{atHeader, swap, go}
 use Rattle.model.specs.KeeperSteps.{moveOf, barrier, copyWord, settle, advance}
 use Rattle.model.specs.Refusals.{Refusal, _if_}
-use Rattle.model.specs.Steps.{Step, Name, ADMIT, RETIRE, BEGIN, ADVANCE, ATTACH, DETACH, OPEN, DROP, READ, WRITE, GO, REST, UNKNOWN, NOBODY, nameOf, ownRow, refusals, seated, effect, refused, act}
+use Rattle.model.specs.Steps.{Step, Name, ADMIT, RETIRE, BEGIN, ADVANCE, ATTACH, DETACH, OPEN, DROP, READ, WRITE, GO, REST, UNKNOWN}
+use Rattle.model.specs.Steps.{NOBODY, nameOf, ownRow, seated, effect, refused, act}
 use Rattle.model.specs.Calls.{wrongSize, unsound, stepCall}
 use Rattle.model.proofs.Choice.{by-test}
-use Rattle.model.proofs.Refusals.{rising, Each, numbers, each, by-refusals}
-
--- every step's lines stand in rising order
-pub refusals-rise : (n : Name) (s : State) (t : Step) → T (rising (refusals n s t))
-refusals-rise ADMIT s t = tt
-refusals-rise RETIRE s t = tt
-refusals-rise BEGIN s t = tt
-refusals-rise ADVANCE s t = tt
-refusals-rise ATTACH s t = tt
-refusals-rise DETACH s t = tt
-refusals-rise OPEN s t = tt
-refusals-rise DROP s t = tt
-refusals-rise READ s t = tt
-refusals-rise WRITE s t = tt
-refusals-rise GO s t = tt
-refusals-rise REST s t = tt
-refusals-rise UNKNOWN s t = tt
-refusals-rise NOBODY s t = tt
+use Rattle.model.proofs.Refusals.{Each, numbers, each, by-refusals}
+use Rattle.model.proofs.Tabled.{table, act-tabled}
 
 -- 01's answer numbers: refusals 1 to 15, 20 to 27 and 30 to 35
 abbrev pub numberOf01 : ℕ → Bool
 numberOf01 n = (leb 1 n and leb n 15) or (leb 20 n and leb n 27) or (leb 30 n and leb n 35)
 
--- the answer is one of these, and below 20 "all memory and the control record are then as before, and the value is 0"
+-- the answer is one of these, and below 20 "All memory and the control record are then as before, and the value is 0"
 pub record Answered (s : State) (o : Outcome) : Type 0 where
   pub tabled : T (numberOf01 (number (o .answer)))
   pub unchanged : number (o .answer) < 20 → (value (o .answer) ≡ 0) × (o .next ≡ s)
@@ -63,10 +48,12 @@ module _ (s : State) (t : Step) where
   by-stage idle = turned-down s 9 tt
   by-stage firstBarrier = by-test (Answered s) (allPassed (s .table)) (λ _. accepted s _ tt tt) (λ _. accepted s _ tt tt)
   by-stage copying =
-      by-test (Answered s) (eqb (rise (moveOf s .copied)) (wordsAt (s .arena) (moveOf s .from))) (λ _. accepted s _ tt tt) (λ _. accepted s _ tt tt)
+      by-test (Answered s) (eqb (rise (moveOf s .copied)) (wordsAt (s .arena) (moveOf s .from))) (λ _. accepted s _ tt tt)
+      (λ _. accepted s _ tt tt)
   by-stage secondBarrier =
       by-test (Answered s) (allPassed (s .table))
-      (λ _. by-test (Answered s) (eqb (header (s .arena) (moveOf s .from)) (flagged (moveOf s .from))) (λ _. accepted s _ tt tt) (λ _. accepted s _ tt tt))
+      (λ _. by-test (Answered s) (eqb (header (s .arena) (moveOf s .from)) (flagged (moveOf s .from))) (λ _. accepted s _ tt tt)
+      (λ _. accepted s _ tt tt))
       (λ _. accepted s _ tt tt)
   by-stage thirdBarrier = by-test (Answered s) (allPassed (s .table)) (λ _. accepted s _ tt tt) (λ _. accepted s _ tt tt)
 
@@ -84,7 +71,8 @@ module _ (s : State) (t : Step) where
   by-phase (Ready c (Read h w)) = accepted s _ tt tt
   by-phase (Ready c (Write h w v)) = accepted s _ tt tt
   by-phase (Waiting c x) =
-      by-test (λ (o : Stepped). Answered s (seated s t o)) (eqb (header (s .arena) c) (flagged c)) (λ _. accepted s _ tt tt) (λ _. accepted s _ tt tt)
+      by-test (λ (o : Stepped). Answered s (seated s t o)) (eqb (header (s .arena) c) (flagged c)) (λ _. accepted s _ tt tt)
+      (λ _. accepted s _ tt tt)
 
   by-name : (n : Name) → Answered s (effect n s t)
   unfolding Seated
@@ -103,31 +91,14 @@ module _ (s : State) (t : Step) where
   by-name UNKNOWN = turned-down s 4 tt
   by-name NOBODY = turned-down s 3 tt
 
-  -- the numbers in a step's lines
-  lines : (n : Name) → T (numbers numberOf01 (refusals n s t))
-  lines ADMIT = tt
-  lines RETIRE = tt
-  lines BEGIN = tt
-  lines ADVANCE = tt
-  lines ATTACH = tt
-  lines DETACH = tt
-  lines OPEN = tt
-  lines DROP = tt
-  lines READ = tt
-  lines WRITE = tt
-  lines GO = tt
-  lines REST = tt
-  lines UNKNOWN = tt
-  lines NOBODY = tt
-
   refusals-answered : (l : List Refusal) → T (numbers numberOf01 l) → Each (λ n. Answered s (refused s n)) l
   refusals-answered l u = each (λ n. Answered s (refused s n)) numberOf01 l (λ n e. turned-down s n (subst T (sym e) tt)) u
 
   act-answered : Answered s (act s t)
-  unfolding act
   act-answered =
-      by-refusals (Answered s) (refusals (nameOf t) s t) (refused s) (effect (nameOf t) s t)
-      (refusals-answered (refusals (nameOf t) s t) (lines (nameOf t))) (λ _. by-name (nameOf t))
+      rw (act-tabled s t)
+      (by-refusals (Answered s) (table s t (nameOf t)) (refused s) (effect (nameOf t) s t) (refusals-answered (table s t (nameOf t)) tt)
+      (λ _. by-name (nameOf t)))
 
   -- every step, on memory of any contents
   pub answered : Answered s (stepCall s t)

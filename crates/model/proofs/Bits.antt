@@ -2,14 +2,14 @@
 use mathlib.Core.Path.{_≡_, refl, sym, ap, ap₂, _∙_, subst}
 use mathlib.Core.Logic.{⊎-elim}
 use Prim.Native.Nat.{ℕ, zero, suc, _+_, _-_, _*_, _/_, _%_, _^_, _≤_, _<_, min, max}
-use native.Mathlib.Nat.{mod-lt, add-mul, add-comm, pow-suc, mul-comm, mul-assoc, zero-mul, one-mul, div-one, zero-div, not-suc-le-zero, div-eq-of-lt, lt-of-lt-of-le}
+use native.Mathlib.Nat.{mod-lt, add-mul, add-comm, pow-suc, mul-comm, mul-assoc, div-one, not-suc-le-zero, div-eq-of-lt, lt-of-lt-of-le}
 use native.Mathlib.Numerals.{add-one}
 use native.Mathlib.Omega.{arith}
 use lib.Arith.{digits-lt}
-use lib.Pow.{pow-pos, pow-mono, split, shr-shr, mod-mod-pow, field, low, high, shr-lt, pow-add, pow-lt}
+use lib.Pow.{pow-pos, pow-mono, split, shr-shr, mod-mod-pow, field, low, high, shr-lt, pow-add}
 use lib.Count.{trailingZeros, under}
-use lib.Bits.{bitAnd, bitOr, and-shr, or-shr, and-step, or-step, and-lt, or-lt}
-use Rattle.model.proofs.Choice.{sides, same-or-not}
+use lib.Bits.{bitAnd, bitOr, and-shr, or-shr, and-step, or-step}
+use Rattle.model.proofs.Choice.{sides}
 use Rattle.model.specs.CellMap.{bit, withBit}
 
 pub bit-lt : (w k : ℕ) → bit w k < 2
@@ -114,7 +114,8 @@ with-lt n w k b h kn hb =
     let hi : w / 2 ^ suc k < 2 ^ d = shr-lt d (suc k) (subst (λ (x : ℕ). w < 2 ^ x) (sym e) h) in
     let q : w / 2 ^ suc k * 2 + b < 2 ^ d * 2 = omega arith in
     let all : 2 ^ d * 2 * 2 ^ k ≡ 2 ^ n =
-    mul-assoc (2 ^ d) 2 (2 ^ k) ∙ ap (λ (x : ℕ). 2 ^ d * x) (mul-comm 2 (2 ^ k) ∙ sym (pow-suc 2 k)) ∙ sym (pow-add 2 d (suc k)) ∙ ap (λ (x : ℕ). 2 ^ x) e in
+    mul-assoc (2 ^ d) 2 (2 ^ k) ∙ ap (λ (x : ℕ). 2 ^ d * x) (mul-comm 2 (2 ^ k) ∙ sym (pow-suc 2 k)) ∙ sym (pow-add 2 d (suc k))
+    ∙ ap (λ (x : ℕ). 2 ^ x) e in
     let r : (w / 2 ^ suc k * 2 + b) * 2 ^ k + w % 2 ^ k < 2 ^ d * 2 * 2 ^ k = digits-lt q (mod-lt w (pow-pos k)) in
     omega (arith, with-split w k b)
 
@@ -127,15 +128,6 @@ pub bit-and : (a b j : ℕ) → bit (bitAnd a b) j ≡ min (bit a j) (bit b j)
 unfolding bit
 bit-and a b j = ap (λ (n : ℕ). n % 2) (and-shr a b j) ∙ omega (arith, and-step (a / 2 ^ j) (b / 2 ^ j))
 
--- 2 ^ k is 0 with bit k set
-pow-with : (k : ℕ) → 2 ^ k ≡ withBit 0 k 1
-unfolding withBit bit
-pow-with k = let z : 0 / 2 ^ k ≡ 0 = zero-div (2 ^ k) in sym (rw z (omega (arith, one-mul (2 ^ k), zero-mul (2 ^ k))))
-
-bit-of-zero : (j : ℕ) → bit 0 j ≡ 0
-unfolding bit
-bit-of-zero j = rw (zero-div (2 ^ j))
-
 -- the complement: `!w`
 pub bit-not : (n w j : ℕ) → w < 2 ^ n → j < n → bit ((2 ^ n - 1) - w) j ≡ 1 - bit w j
 bit-not zero w j h hj = absurd (not-suc-le-zero hj)
@@ -145,42 +137,6 @@ bit-not (suc n) w (suc j) h hj =
     let e : ((2 ^ suc n - 1) - w) / 2 ≡ (2 ^ n - 1) - w / 2 = omega (arith, pow-pos n) in
     bit-suc ((2 ^ suc n - 1) - w) j ∙ ap (λ (x : ℕ). bit x j) e ∙ bit-not n (w / 2) j (omega arith) (omega arith)
     ∙ ap (λ (x : ℕ). 1 - x) (sym (bit-suc w j))
-
--- `w | 1 << k`
-pub or-pow : (w k : ℕ) → w < 2 ^ 64 → k < 64 → bitOr w (2 ^ k) ≡ withBit w k 1
-or-pow w k h hk =
-    bits-ext 64 (bitOr w (2 ^ k)) (withBit w k 1) (or-lt 64 w (2 ^ k) h (pow-lt hk)) (with-lt 64 w k 1 h hk (omega arith))
-    (λ j hj. bit-or w (2 ^ k) j ∙ ⊎-elim (same j) (other j) (same-or-not j k))
-  where
-    same : (j : ℕ) → j ≡ k → max (bit w j) (bit (2 ^ k) j) ≡ bit (withBit w k 1) j
-    same j e =
-        let p : bit (2 ^ k) j ≡ 1 = ap (λ (n : ℕ). bit n j) (pow-with k) ∙ ap (bit (withBit 0 k 1)) e ∙ with-same 0 k 1 (omega arith) in
-        let q : bit (withBit w k 1) j ≡ 1 = ap (bit (withBit w k 1)) e ∙ with-same w k 1 (omega arith) in
-        omega (arith, bit-lt w j)
-
-    other : (j : ℕ) → (j ≡ k → ⊥) → max (bit w j) (bit (2 ^ k) j) ≡ bit (withBit w k 1) j
-    other j ne =
-        let p : bit (2 ^ k) j ≡ 0 = ap (λ (n : ℕ). bit n j) (pow-with k) ∙ with-other 0 k 1 j (omega arith) ne ∙ bit-of-zero j in
-        let q : bit (withBit w k 1) j ≡ bit w j = with-other w k 1 j (omega arith) ne in
-        omega arith
-
--- `w & !(1 << k)`
-pub and-not-pow : (w k : ℕ) → w < 2 ^ 64 → k < 64 → bitAnd w ((2 ^ 64 - 1) - 2 ^ k) ≡ withBit w k 0
-and-not-pow w k h hk =
-    bits-ext 64 (bitAnd w ((2 ^ 64 - 1) - 2 ^ k)) (withBit w k 0) (and-lt 64 w ((2 ^ 64 - 1) - 2 ^ k) h (omega arith)) (with-lt 64 w k 0 h hk (omega arith))
-    (λ j hj. bit-and w ((2 ^ 64 - 1) - 2 ^ k) j ∙ ⊎-elim (same j hj) (other j hj) (same-or-not j k))
-  where
-    same : (j : ℕ) → j < 64 → j ≡ k → min (bit w j) (bit ((2 ^ 64 - 1) - 2 ^ k) j) ≡ bit (withBit w k 0) j
-    same j hj e =
-        let p : bit (2 ^ k) j ≡ 1 = ap (λ (n : ℕ). bit n j) (pow-with k) ∙ ap (bit (withBit 0 k 1)) e ∙ with-same 0 k 1 (omega arith) in
-        let q : bit (withBit w k 0) j ≡ 0 = ap (bit (withBit w k 0)) e ∙ with-same w k 0 (omega arith) in
-        omega (arith, bit-lt w j, bit-not 64 (2 ^ k) j (pow-lt hk) hj)
-
-    other : (j : ℕ) → j < 64 → (j ≡ k → ⊥) → min (bit w j) (bit ((2 ^ 64 - 1) - 2 ^ k) j) ≡ bit (withBit w k 0) j
-    other j hj ne =
-        let p : bit (2 ^ k) j ≡ 0 = ap (λ (n : ℕ). bit n j) (pow-with k) ∙ with-other 0 k 1 j (omega arith) ne ∙ bit-of-zero j in
-        let q : bit (withBit w k 0) j ≡ bit w j = with-other w k 0 j (omega arith) ne in
-        omega (arith, bit-lt w j, bit-not 64 (2 ^ k) j (pow-lt hk) hj)
 
 -- trailing zeros: every bit below the count is 0, and the bit at the count is 1 unless all k are 0
 low-zeros : (n t : ℕ) → ((i : ℕ) → i < t → bit (n / 2) i ≡ 0) → (d : ℕ) → n % 2 ≡ d → (i : ℕ) → i < under d t → bit n i ≡ 0

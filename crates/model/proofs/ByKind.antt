@@ -13,8 +13,10 @@ pub record Regular (k : ℕ) : Type 0 where
 
 pub by-kind : (k : ℕ) → Regular k
 unfolding ofKind kindTable
-by-kind zero = record { words-are-cells = refl; payload-is-words = refl; at-most = omega arith; cells-double = λ _. refl; some = λ _. omega arith }
-by-kind (suc zero) = record { words-are-cells = refl; payload-is-words = refl; at-most = omega arith; cells-double = λ _. refl; some = λ _. omega arith }
+by-kind zero =
+    record { words-are-cells = refl; payload-is-words = refl; at-most = omega arith; cells-double = λ _. refl; some = λ _. omega arith }
+by-kind (suc zero) =
+    record { words-are-cells = refl; payload-is-words = refl; at-most = omega arith; cells-double = λ _. refl; some = λ _. omega arith }
 by-kind (suc (suc zero)) =
     record { words-are-cells = refl; payload-is-words = refl; at-most = omega arith; cells-double = λ _. refl; some = λ _. omega arith }
 by-kind (suc (suc (suc zero))) =

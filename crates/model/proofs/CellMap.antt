@@ -4,9 +4,8 @@ use mathlib.Core.Path.{_≡_, refl, sym, ap, ap₂, _∙_, subst, subst⁻¹}
 use mathlib.Core.Bool.{Bool, true, false}
 use mathlib.Core.List.{List}
 use mathlib.Core.Logic.{_⊎_, inl, inr, ⊎-elim}
-use Prim.Native.Nat.{ℕ, zero, suc, _+_, _-_, _*_, _/_, _%_, _^_, _≤_, _<_}
+use Prim.Native.Nat.{ℕ, zero, suc, _+_, _*_, _/_, _%_, _^_, _≤_, _<_}
 use native.Mathlib.Nat.{zero-div}
-use native.Mathlib.Numerals.{add-one}
 use native.Mathlib.Omega.{arith}
 use lib.Dec.{lit<, eqb, leb}
 use borrow.Author.Tests.{eq-eqb, eqb-true, le-leb, leb-true}
@@ -15,6 +14,7 @@ use lib.Seq.{getD-set-same, getD-set-other, set-out, ext-getD}
 use Rattle.model.specs.Choice.{pick, _and_}
 use Rattle.model.proofs.Choice.{order, same-or-not, clash, by-test, and-parts, and-true}
 use Rattle.model.specs.Records.{none}
+use Rattle.model.proofs.Says.{getD-fresh}
 use Rattle.model.proofs.Bits.{bit-lt, with-same, with-other, with-lt, bits-ext}
 use Rattle.model.specs.CellMap.{bit, withBit, used, put, putRun, freeCells, runAt, lowestFrom, lowestRun}
 
@@ -42,7 +42,8 @@ set-map m i w h hw = record { sixteen = length-set m i w ∙ h .sixteen; words =
     same : (k : ℕ) → k ≡ i → getD (set m i w) k 0 < 2 ^ 64
     same k e =
         subst⁻¹ (λ (x : ℕ). getD (set m i w) x 0 < 2 ^ 64) e
-        (⊎-elim (λ p. subst⁻¹ (λ (x : ℕ). x < 2 ^ 64) (getD-set-same m i w 0 p) hw) (λ p. subst⁻¹ (λ (l : List ℕ). getD l i 0 < 2 ^ 64) (set-out m i w p) (h .words i)) (order i (length m)))
+        (⊎-elim (λ p. subst⁻¹ (λ (x : ℕ). x < 2 ^ 64) (getD-set-same m i w 0 p) hw)
+        (λ p. subst⁻¹ (λ (l : List ℕ). getD l i 0 < 2 ^ 64) (set-out m i w p) (h .words i)) (order i (length m)))
 
     other : (k : ℕ) → (k ≡ i → ⊥) → getD (set m i w) k 0 < 2 ^ 64
     other k ne = subst⁻¹ (λ (x : ℕ). x < 2 ^ 64) (getD-set-other m i k w 0 ne) (h .words k)
@@ -50,7 +51,8 @@ set-map m i w h hw = record { sixteen = length-set m i w ∙ h .sixteen; words =
 pub put-map : (m : List ℕ) (c b : ℕ) → IsMap m → b < 2 → IsMap (put m c b)
 unfolding put
 put-map m c b h hb =
-    set-map m (c / 64) (withBit (getD m (c / 64) 0) (c % 64) b) h (with-lt 64 (getD m (c / 64) 0) (c % 64) b (h .words (c / 64)) (omega arith) hb)
+    set-map m (c / 64) (withBit (getD m (c / 64) 0) (c % 64) b) h
+    (with-lt 64 (getD m (c / 64) 0) (c % 64) b (h .words (c / 64)) (omega arith) hb)
 
 -- the cell that was put, and every other
 pub used-put : (m : List ℕ) (c b : ℕ) → IsMap m → c < 1024 → b < 2 → used (put m c b) c ≡ b
@@ -68,7 +70,8 @@ used-put-other m c b j hb ne = ⊎-elim same other (same-or-not (j / 64) (c / 64
         let ne′ : j % 64 ≡ c % 64 → ⊥ = λ q. ne (omega arith) in
         ap (λ (i : ℕ). bit (getD (put m c b) i 0) (j % 64)) e
         ∙ ⊎-elim
-        (λ p. ap (λ (x : ℕ). bit x (j % 64)) (getD-set-same m (c / 64) (withBit (getD m (c / 64) 0) (c % 64) b) 0 p) ∙ with-other (getD m (c / 64) 0) (c % 64) b (j % 64) hb ne′)
+        (λ p. ap (λ (x : ℕ). bit x (j % 64)) (getD-set-same m (c / 64) (withBit (getD m (c / 64) 0) (c % 64) b) 0 p)
+        ∙ with-other (getD m (c / 64) 0) (c % 64) b (j % 64) hb ne′)
         (λ p. ap (λ (l : List ℕ). bit (getD l (c / 64) 0) (j % 64)) (set-out m (c / 64) (withBit (getD m (c / 64) 0) (c % 64) b) p))
         (order (c / 64) (length m))
         ∙ ap (λ (i : ℕ). bit (getD m i 0) (j % 64)) (sym e)
@@ -110,23 +113,13 @@ map-ext m m′ h h′ same =
     (λ i p. bits-ext 64 (getD m i 0) (getD m′ i 0) (h .words i) (h′ .words i)
     (λ k q. sym (used-at m i k q) ∙ same (64 * i + k) (omega (arith, h .sixteen)) ∙ used-at m′ i k q))
 
--- one cell more of a run, as a loop's counter has it
-pub run-more : (m : List ℕ) (c i b : ℕ) → putRun m c (i + 1) b ≡ put (putRun m c i b) (c + i) b
-unfolding putRun
-run-more m c i b = ap (λ (n : ℕ). putRun m c n b) (add-one i)
-
 -- a fresh map, [0; 16], is a map in which every cell is free
-zeros : (n i : ℕ) → _≡_ {A = ℕ} (getD (replicate n 0) i 0) 0
-zeros zero i = refl
-zeros (suc n) zero = refl
-zeros (suc n) (suc i) = zeros n i
-
 pub fresh-map : IsMap (replicate 16 0)
-fresh-map = record { sixteen = refl; words = λ i. subst⁻¹ (λ (x : ℕ). x < 2 ^ 64) (zeros 16 i) (lit< tt) }
+fresh-map = record { sixteen = refl; words = λ i. subst⁻¹ (λ (x : ℕ). x < 2 ^ 64) (getD-fresh 16 i 0) (lit< tt) }
 
 pub fresh-free : (c : ℕ) → used (replicate 16 0) c ≡ 0
 unfolding used bit
-fresh-free c = ap (λ (w : ℕ). w / 2 ^ (c % 64) % 2) (zeros 16 (c / 64)) ∙ ap (λ (w : ℕ). w % 2) (zero-div (2 ^ (c % 64)))
+fresh-free c = ap (λ (w : ℕ). w / 2 ^ (c % 64) % 2) (getD-fresh 16 (c / 64) 0) ∙ ap (λ (w : ℕ). w % 2) (zero-div (2 ^ (c % 64)))
 
 -- a run of n free cells at c: the cells lie in the map and are free
 pub record FreeRun (m : List ℕ) (n c : ℕ) : Type 0 where
@@ -217,7 +210,8 @@ lowest-unique m n h (nowhere f) (nowhere g) = refl
 lowest-unique m n h (nowhere f) (found run g) = absurd (f _ run)
 lowest-unique m n h (found run f) (nowhere g) = absurd (g _ run)
 lowest-unique m n h {r} {q} (found run f) (found run′ g) =
-    ⊎-elim (λ (p : r < q). absurd (g r p run)) (λ (p : q ≤ r). ⊎-elim (λ (l : q < r). absurd (f q l run′)) (λ (l : r ≤ q). omega arith) (order q r)) (order r q)
+    ⊎-elim (λ (p : r < q). absurd (g r p run))
+    (λ (p : q ≤ r). ⊎-elim (λ (l : q < r). absurd (f q l run′)) (λ (l : r ≤ q). omega arith) (order q r)) (order r q)
 
 -- the parts of it that callers cite
 pub lowest-free : (m : List ℕ) (n : ℕ) → 0 < n → ¬ (lowestRun m n ≡ none) → FreeRun m n (lowestRun m n)

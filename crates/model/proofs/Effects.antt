@@ -1,9 +1,10 @@
 -- What 01 says of single steps, as facts about the definitions: what a step writes, frees and leaves alone. Assumes nothing.
 use mathlib.Core.Path.{_≡_, refl}
 use mathlib.Core.Logic.{_≢_}
-use mathlib.Core.List.{List, [], _∷_}
-use Prim.Native.Nat.{ℕ, zero, suc, _<_}
-use lib.Dec.{eqb, ltb}
+use mathlib.Core.Bool.{true, false}
+use mathlib.Core.List.{List}
+use Prim.Native.Nat.{ℕ, suc, _<_}
+use lib.Dec.{eqb}
 use lib.ListN.{length, getD}
 use lib.Seq.{getD-set-same, getD-set-other}
 use borrow.Author.Tests.{eq-eqb, ne-eqb}
@@ -12,13 +13,14 @@ use Rattle.model.specs.declared.Phase.the-variants.{Ready}
 use Rattle.model.specs.declared.Row.{Row}
 use Rattle.model.specs.Records.{place, word, header, plain, flagged, targetOf, wordsAt}
 use Rattle.model.specs.State.{rise, State}
-use Rattle.model.specs.Answers.{Outcome}
+use Rattle.model.specs.Answers.{told, Outcome}
 use Rattle.model.specs.ClientSteps.{swap, changed}
-use Rattle.model.specs.KeeperSteps.{moveOf, replicaWord, copyWord, commit}
-use Rattle.model.specs.Refusals.{Refusal}
-use Rattle.model.specs.Steps.{Step, step, Name, ADMIT, RETIRE, BEGIN, ADVANCE, ATTACH, DETACH, OPEN, DROP, READ, WRITE, GO, REST, UNKNOWN, NOBODY, clientCodes, named, nameOf, refusals, effect, refused, act}
-use Rattle.model.proofs.Choice.{by-test}
-use Rattle.model.proofs.Refusals.{Each, by-refusals}
+use Rattle.model.specs.KeeperSteps.{admit, begin, moveOf, replicaWord, copyWord, commit}
+use Rattle.model.specs.Steps.{Step, step, Name, ADMIT, RETIRE, BEGIN, ADVANCE, ATTACH, DETACH, OPEN, DROP, READ, WRITE, GO, REST}
+use Rattle.model.specs.Steps.{UNKNOWN, NOBODY, nameOf, refusals, effect, refused, act}
+use Rattle.model.proofs.Choice.{by-test, clash}
+use Rattle.model.proofs.Parties.{ofKeeper, not-keepers}
+use Rattle.model.proofs.Refusals.{unless-refused}
 
 -- copying writes one word of the replica and no other: that word is the old block's, or for word 0 the header 2 × target
 pub copy-writes : (s : State) → place (moveOf s .target) (moveOf s .copied) < length (s .arena)
@@ -30,7 +32,8 @@ copy-writes s h =
     (λ _. getD-set-same (s .arena) (place (moveOf s .target) (moveOf s .copied)) (replicaWord (s .arena) (moveOf s)) 0 h)
     (λ _. getD-set-same (s .arena) (place (moveOf s .target) (moveOf s .copied)) (replicaWord (s .arena) (moveOf s)) 0 h)
 
-pub copy-leaves : (s : State) (i : ℕ) → i ≢ place (moveOf s .target) (moveOf s .copied) → getD (copyWord s .next .arena) i 0 ≡ getD (s .arena) i 0
+pub copy-leaves : (s : State) (i : ℕ) → i ≢ place (moveOf s .target) (moveOf s .copied)
+    → getD (copyWord s .next .arena) i 0 ≡ getD (s .arena) i 0
 unfolding copyWord
 copy-leaves s i n =
     by-test (λ (o : Outcome). getD (o .next .arena) i 0 ≡ getD (s .arena) i 0)
@@ -38,7 +41,8 @@ copy-leaves s i n =
     (λ _. getD-set-other (s .arena) (place (moveOf s .target) (moveOf s .copied)) i (replicaWord (s .arena) (moveOf s)) 0 n)
     (λ _. getD-set-other (s .arena) (place (moveOf s .target) (moveOf s .copied)) i (replicaWord (s .arena) (moveOf s)) 0 n)
 
-pub replica-copies : (s : State) → moveOf s .copied ≢ 0 → replicaWord (s .arena) (moveOf s) ≡ word (s .arena) (moveOf s .from) (moveOf s .copied)
+pub replica-copies : (s : State) → moveOf s .copied ≢ 0
+    → replicaWord (s .arena) (moveOf s) ≡ word (s .arena) (moveOf s .from) (moveOf s .copied)
 unfolding replicaWord
 replica-copies s n = rw (ne-eqb (moveOf s .copied) 0 n)
 
@@ -53,51 +57,30 @@ pub swap-lost : (arena : List ℕ) (r : Row) (c : ℕ) (x : Access) → header a
 unfolding swap
 swap-lost arena r c x n = rw (ne-eqb (header arena c) (flagged c) n)
 
+-- the answers that name a cell: ADMIT's the record's, BEGIN's and the commit's the target
+pub admit-answers : (s : State) (m k c : ℕ) → told (admit s m k c .answer) ≡ (20, c)
+admit-answers s m k c = refl
+
+pub begin-answers : (s : State) (m c d : ℕ) → told (begin s m c d .answer) ≡ (21, d)
+begin-answers s m c d = refl
+
+pub commit-answers : (s : State) → told (commit s .answer) ≡ (25, moveOf s .target)
+commit-answers s = refl
+
 -- the commit frees no cell
 pub commit-keeps-cells : (s : State) → commit s .next .control .map ≡ s .control .map
 commit-keeps-cells s = refl
 
 -- a client's step leaves the control record as it was: it frees nothing, and moves no count
-abbrev ForClients : Name → Type 0
-ForClients ADMIT = ⊥
-ForClients RETIRE = ⊥
-ForClients BEGIN = ⊥
-ForClients ADVANCE = ⊥
-ForClients ATTACH = Unit {0}
-ForClients DETACH = Unit {0}
-ForClients OPEN = Unit {0}
-ForClients DROP = Unit {0}
-ForClients READ = Unit {0}
-ForClients WRITE = Unit {0}
-ForClients GO = Unit {0}
-ForClients REST = Unit {0}
-ForClients UNKNOWN = Unit {0}
-ForClients NOBODY = Unit {0}
-
-abbrev AllForClients : List Name → Type 0
-AllForClients [] = Unit {0}
-AllForClients (n ∷ l) = ForClients n × AllForClients l
-
-listed : (l : List Name) (i : ℕ) → AllForClients l → ForClients (getD l i UNKNOWN)
-listed [] i a = tt
-listed (n ∷ l) zero a = a .0
-listed (n ∷ l) (suc i) a = listed l i (a .1)
-
-client-name : (client code : ℕ) → ForClients (named (suc client) code)
-client-name client code =
-    by-test ForClients (ltb client 8)
-    (λ _. listed clientCodes code (tt, (tt, (tt, (tt, (tt, (tt, (tt, (tt, (tt, (tt, (tt, (tt, (tt, (tt, (tt, (tt, (tt, (tt, tt)))))))))))))))))))
-    (λ _. tt)
-
 module _ (s : State) (t : Step) where
   abbrev Kept : Outcome → Type 0
   Kept o = o .next .control ≡ s .control
 
-  effect-keeps : (n : Name) → ForClients n → Kept (effect n s t)
-  effect-keeps ADMIT f = absurd f
-  effect-keeps RETIRE f = absurd f
-  effect-keeps BEGIN f = absurd f
-  effect-keeps ADVANCE f = absurd f
+  effect-keeps : (n : Name) → ofKeeper n ≡ false → Kept (effect n s t)
+  effect-keeps ADMIT f = clash true refl f
+  effect-keeps RETIRE f = clash true refl f
+  effect-keeps BEGIN f = clash true refl f
+  effect-keeps ADVANCE f = clash true refl f
   effect-keeps ATTACH f = refl
   effect-keeps DETACH f = refl
   effect-keeps OPEN f = refl
@@ -113,9 +96,5 @@ pub client-keeps-control : (s : State) (client code a b v : ℕ) → act s (step
 unfolding act
 client-keeps-control s client code a b v =
     let t = step (suc client) code a b v in
-    by-refusals (Kept s t) (refusals (nameOf t) s t) (refused s) (effect (nameOf t) s t)
-    (each-kept (refusals (nameOf t) s t)) (λ _. effect-keeps s t (nameOf t) (client-name client code))
-  where
-    each-kept : (l : List Refusal) → Each (λ n. s .control ≡ s .control) l
-    each-kept [] = tt
-    each-kept (g ∷ l) = (refl, each-kept l)
+    unless-refused (Kept s t) (refusals (nameOf t) s t) (refused s) (effect (nameOf t) s t) (λ _. refl)
+    (λ _. effect-keeps s t (nameOf t) (not-keepers client code))

@@ -1,5 +1,5 @@
--- "A fresh directory has all 256 meters absent", every cell is free, and the fresh state is sound: by laws, nothing is computed over
--- 256 entries or 1,024 cells. Assumes nothing.
+-- "A fresh directory has all 256 meters absent", every word of the arena is zero, and the fresh state is sound: by laws, nothing is
+-- computed over 256 entries or 1,024 cells. Assumes nothing.
 use mathlib.Core.Path.{_≡_, refl, _∙_}
 use mathlib.Core.Logic.{_≢_}
 use mathlib.Core.Bool.{Bool, true, false}
@@ -10,13 +10,12 @@ use lib.ListN.{getD, replicate, getD-replicate}
 use Rattle.model.specs.declared.Move.{Move}
 use Rattle.model.specs.Choice.{total}
 use Rattle.model.specs.Records.{none}
-use Rattle.model.specs.CellMap.{used}
 use Rattle.model.specs.State.{noMove, entry}
 use Rattle.model.specs.Rules.{recordCovers, blocksOver, flagUp, firstBroken}
 use Rattle.model.specs.Fresh.{fresh}
 use Rattle.model.specs.Rows.{freshRow}
 use Rattle.model.proofs.CellMap.{fresh-free}
-use Rattle.model.proofs.Says.{all-replicate}
+use Rattle.model.proofs.Says.{getD-fresh, all-replicate}
 use Rattle.model.proofs.Readings.{Late, RowRight, hold-empty, SwapsAt, says-flag, Sound, sound-test}
 
 -- each of the 256 entries
@@ -25,15 +24,11 @@ fresh-absent m h = getD-replicate 256 m none 0 h
 
 -- and a meter above 255
 pub fresh-entry : (m : ℕ) → entry (fresh .control .dir) m ≡ none
-fresh-entry m = absent 256 m
-  where
-    absent : (n m : ℕ) → entry (replicate n none) m ≡ none
-    absent zero m = refl
-    absent (suc n) zero = refl
-    absent (suc n) (suc m) = absent n m
+fresh-entry m = getD-fresh 256 m none
 
-pub fresh-cells-free : (c : ℕ) → used (fresh .control .map) c ≡ 0
-fresh-cells-free = fresh-free
+-- "zeroes the arena"
+pub fresh-word : (i : ℕ) → getD (fresh .arena) i 0 ≡ 0
+fresh-word i = getD-fresh 8192 i 0
 
 -- absent entries cover no cell
 absent-cover : (arena : List ℕ) (x n : ℕ) → total (recordCovers arena x) (replicate n none) ≡ 0

@@ -2,7 +2,9 @@ pub mod Choice
 pub mod ByKind
 pub mod Bits
 pub mod CellMap
+pub mod Parties
 pub mod Refusals
+pub mod Tabled
 pub mod Answered
 pub mod MapCount
 pub mod Records
@@ -14,6 +16,7 @@ pub mod Covers
 pub mod Fill
 pub mod Wording
 pub mod Fresh
+pub mod Calls
 pub mod Headers
 pub mod Sizes
 pub mod Holds

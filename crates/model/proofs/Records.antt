@@ -8,6 +8,7 @@ use native.Mathlib.Omega.{arith}
 use lib.ListN.{length, getD, set, replicate, length-replicate, replicate-append-replicate}
 use Rattle.model.specs.Kinds.{cells, payload}
 use Rattle.model.specs.Records.{newRecord, laid}
+use Rattle.model.proofs.Says.{getD-fresh}
 use Rattle.model.proofs.ByKind.{Real, real}
 
 -- no word laid
@@ -54,7 +55,8 @@ laid-all (x ∷ a) [] e = absurd (omega arith)
 laid-all (x ∷ a) (w ∷ ws) e = ap (λ (l : List ℕ). w ∷ l) (laid-all a ws (omega arith))
 
 -- place j, where word k of the new words lies
-pub laid-in : (arena : List ℕ) (i : ℕ) (ws : List ℕ) (j k : ℕ) → j ≡ i + k → k < length ws → j < length arena → getD (laid arena i ws) j 0 ≡ getD ws k 0
+pub laid-in : (arena : List ℕ) (i : ℕ) (ws : List ℕ) (j k : ℕ) → j ≡ i + k → k < length ws → j < length arena
+    → getD (laid arena i ws) j 0 ≡ getD ws k 0
 unfolding laid
 laid-in [] i ws j k e p q = absurd (omega arith)
 laid-in (x ∷ arena) zero [] j k e p q = absurd (omega arith)
@@ -66,7 +68,8 @@ laid-in (x ∷ arena) (suc i) ws zero k e p q = absurd (omega arith)
 laid-in (x ∷ arena) (suc i) ws (suc j) k e p q = laid-in arena i ws j k (omega arith) p (omega arith)
 
 -- outside the new words nothing changes
-pub laid-out : (arena : List ℕ) (i : ℕ) (ws : List ℕ) (j : ℕ) → (i ≤ j → j < i + length ws → ⊥) → getD (laid arena i ws) j 0 ≡ getD arena j 0
+pub laid-out : (arena : List ℕ) (i : ℕ) (ws : List ℕ) (j : ℕ) → (i ≤ j → j < i + length ws → ⊥)
+    → getD (laid arena i ws) j 0 ≡ getD arena j 0
 unfolding laid
 laid-out [] i ws j n = refl
 laid-out (x ∷ arena) zero [] j n = refl
@@ -82,10 +85,5 @@ new-length c m k h =
     let r : Real k = real k h in
     omega arith
 
-zeros : (n i : ℕ) → _≡_ {A = ℕ} (getD (replicate n 0) i 0) 0
-zeros zero i = refl
-zeros (suc n) zero = refl
-zeros (suc n) (suc i) = zeros n i
-
 pub new-zero : (c m k w : ℕ) → getD (newRecord c m k) (2 + w) 0 ≡ 0
-new-zero c m k w = let e : 2 + w ≡ suc (suc w) = omega arith in rw e (zeros (payload k) w)
+new-zero c m k w = let e : 2 + w ≡ suc (suc w) = omega arith in rw e (getD-fresh (payload k) w 0)

@@ -21,7 +21,8 @@ abbrev pub Each : (ℕ → Type 0) → List Refusal → Type 0
 Each Q [] = Unit {0}
 Each Q (g ∷ l) = Q (g .0) × Each Q l
 
-pub by-refusals : {A : Type 0} (P : A → Type 0) (l : List Refusal) (f : ℕ → A) (o : A) → Each (λ n. P (f n)) l → (Passed l → P o) → P (refuse l f o)
+pub by-refusals : {A : Type 0} (P : A → Type 0) (l : List Refusal) (f : ℕ → A) (o : A) → Each (λ n. P (f n)) l → (Passed l → P o)
+    → P (refuse l f o)
 by-refusals P [] f o r h = h tt
 by-refusals P (g ∷ l) f o r h = by-test P (g .1) (λ e. r .0) (λ e. by-refusals P l f o (r .1) (λ k. h (e, k)))
 
@@ -30,7 +31,8 @@ each-line : (Q : ℕ → Type 0) (l : List Refusal) → ((n : ℕ) → Q n) → 
 each-line Q [] h = tt
 each-line Q (g ∷ l) h = (h (g .0), each-line Q l h)
 
-pub unless-refused : {A : Type 0} (P : A → Type 0) (l : List Refusal) (f : ℕ → A) (o : A) → ((n : ℕ) → P (f n)) → (Passed l → P o) → P (refuse l f o)
+pub unless-refused : {A : Type 0} (P : A → Type 0) (l : List Refusal) (f : ℕ → A) (o : A) → ((n : ℕ) → P (f n)) → (Passed l → P o)
+    → P (refuse l f o)
 unless-refused P l f o r h = by-refusals P l f o (each-line (λ n. P (f n)) l r) h
 
 -- what holds of every number that a test lets pass holds of each line, where the test, computed, lets all its numbers pass
@@ -85,8 +87,8 @@ floor : (l : List Refusal) (n m : ℕ) → T (atLeast n l) → applies m l ≡ t
 floor [] n m t e = clash false e refl
 floor (g ∷ l) n m t e = by (leb n (g .0)) refl t (eqb (g .0) m) refl (g .1) e (λ u. floor l n m u)
   where
-    by : (p : Bool) → leb n (g .0) ≡ p → T (p and atLeast n l) → (q : Bool) → eqb (g .0) m ≡ q → (x : Bool) → ((q and x) or applies m l) ≡ true
-        → (T (atLeast n l) → applies m l ≡ true → n ≤ m) → n ≤ m
+    by : (p : Bool) → leb n (g .0) ≡ p → T (p and atLeast n l) → (q : Bool) → eqb (g .0) m ≡ q → (x : Bool)
+        → ((q and x) or applies m l) ≡ true → (T (atLeast n l) → applies m l ≡ true → n ≤ m) → n ≤ m
     by true p u true q true f r = omega (arith, leb-true n (g .0) p, eqb-true (g .0) m q)
     by true p u true q false f r = r u f
     by true p u false q x f r = r u f

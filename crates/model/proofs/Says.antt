@@ -143,6 +143,12 @@ module _ {A : Type 0} where
   at-all P d [] h = tt
   at-all P d (x ∷ l) h = (h 0 (omega arith), at-all P d l (λ i b. h (suc i) (omega arith)))
 
+  -- a list of one value: what it has at each place, and past its end where that is the default
+  pub getD-fresh : (n i : ℕ) (x : A) → getD (replicate n x) i x ≡ x
+  getD-fresh zero i x = refl
+  getD-fresh (suc n) zero x = refl
+  getD-fresh (suc n) (suc i) x = getD-fresh n i x
+
   pub all-replicate : (P : A → Type 0) (n : ℕ) (x : A) → P x → All P (replicate n x)
   all-replicate P zero x p = tt
   all-replicate P (suc n) x p = (p, all-replicate P n x p)

@@ -1,8 +1,9 @@
--- 01's number and value for each answer.
+-- 01's number and value for each answer: a refusal's is that of the table, the others are named at the steps and calls.
 use Prim.Native.Nat.{ℕ}
 use Rattle.model.specs.State.{State}
 use Rattle.model.specs.declared.Answer.{Answer}
-use Rattle.model.specs.declared.Answer.the-variants.{Refused, Admitted, Begun, BarrierOpen, CopyingStarts, Copied, Committed, CalledOff, GivenBack, Done, ReadyAt, WaitsOn, SwapWon, SwapLost, Got, Written}
+use Rattle.model.specs.declared.Answer.the-variants.{Refused, Admitted, Begun, BarrierOpen, CopyingStarts, Copied, Committed}
+use Rattle.model.specs.declared.Answer.the-variants.{CalledOff, GivenBack, Done, ReadyAt, WaitsOn, SwapWon, SwapLost, Got, Written}
 
 -- "Values not named are 0."
 abbrev pub told : Answer → ℕ × ℕ

@@ -23,10 +23,11 @@ wrongSize s = not (eqb (length (s .arena)) 8192 and eqb (length (s .table)) 8)
 unfoldable pub unsound : State → Bool
 unsound s = not (eqb (firstBroken s) 0)
 
--- "Of refusals fresh and audit can give only 1, fill 1 and 2."
+-- "30 with 0, or for fill with the figure, when they succeed. Of refusals fresh and audit can give only 1, fill 1 and 2."
 unfoldable pub freshCall : State → Outcome
 freshCall s = refuse (1 if wrongSize s ∷ []) (refused s) (outcome (Done 0) fresh)
 
+-- "Audit's value, beside answer 30, is 0 or the number of the first broken rule."
 unfoldable pub auditCall : State → Outcome
 auditCall s = refuse (1 if wrongSize s ∷ []) (refused s) (outcome (Done (firstBroken s)) s)
 
@@ -36,7 +37,7 @@ fillCall s = refuse (1 if wrongSize s ∷ 2 if unsound s ∷ []) (refused s) (ou
 unfoldable pub stepCall : State → Step → Outcome
 stepCall s t = refuse (1 if wrongSize s ∷ 2 if unsound s ∷ []) (refused s) (act s t)
 
--- the steps one by one: "a refused step inside it only fills its own slot"
+-- what a run gives: its answer, the answer slots, and the state that it leaves
 pub record Ran : Type 0 where
   pub answer : Answer
   pub slots : List ℕ
@@ -45,10 +46,11 @@ pub record Ran : Type 0 where
 abbrev pub ran : Answer → List ℕ → State → Ran
 ran x slots s = record { answer = x; slots = slots; next = s }
 
--- a two-word answer slot before those of the later steps
+-- "a two-word answer slot", its number and its value, before those of the later steps
 abbrev pub then : Outcome → Ran → Ran
 then o r = ran (r .answer) (number (o .answer) ∷ value (o .answer) ∷ r .slots) (r .next)
 
+-- "the steps one by one"; "a refused step inside it only fills its own slot"
 abbrev pub oneByOne : (State → Step → Outcome) → State → List Step → Ran
 oneByOne f s [] = ran (Done 0) [] s
 oneByOne f s (t ∷ l) = then (f s t) (oneByOne f (f s t .next) l)
@@ -68,7 +70,7 @@ stepsOf ws = stepsFrom ws 0 (length ws / 5)
 unfoldable pub runSizes : List ℕ → List ℕ → Bool
 runSizes ws slots = leb (length ws) 20480 and eqb (length ws % 5) 0 and eqb (length slots) (2 * (length ws / 5))
 
--- "checks soundness once"; "1 or 2 refuses the whole run and writes no answers"
+-- "checks soundness once"; "1 or 2 refuses the whole run and writes no answers"; "A run of no steps still gives 2 on an unsound state."
 unfoldable pub runCall : State → List ℕ → List ℕ → Ran
 runCall s ws slots =
     refuse (1 if wrongSize s ∷ 1 if not (runSizes ws slots) ∷ 2 if unsound s ∷ []) (λ n. ran (Refused n) slots s)

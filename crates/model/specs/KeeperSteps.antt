@@ -6,13 +6,16 @@ use lib.ListN.{set}
 use Rattle.model.specs.declared.Row.{Row}
 use Rattle.model.specs.declared.Move.{Move}
 use Rattle.model.specs.declared.Control.{Control}
-use Rattle.model.specs.declared.Answer.the-variants.{Refused, Admitted, Begun, BarrierOpen, CopyingStarts, Copied, Committed, CalledOff, GivenBack, Done}
+use Rattle.model.specs.declared.Answer.the-variants.{Refused, Admitted, Begun, BarrierOpen, CopyingStarts, Copied, Committed}
+use Rattle.model.specs.declared.Answer.the-variants.{CalledOff, GivenBack, Done}
 use Rattle.model.specs.Choice.{pick}
 use Rattle.model.specs.Kinds.{cells}
 use Rattle.model.specs.Records.{none, start, place, word, header, plain, flagged, cellsAt, wordsAt, newRecord, laid}
 use Rattle.model.specs.CellMap.{putRun}
 use Rattle.model.specs.Rows.{clearMarks, allPassed}
-use Rattle.model.specs.State.{Stage, idle, firstBarrier, copying, secondBarrier, thirdBarrier, noMove, withStage, withCopied, withDir, withMap, withMove, withBegun, withCommitted, withAborted, rise, State, state, withControl}
+use Rattle.model.specs.State.{Stage, idle, firstBarrier, copying, secondBarrier, thirdBarrier, stageNumber, noMove, withStage}
+use Rattle.model.specs.State.{withCopied, withDir, withMap, withMove, withBegun, withCommitted, withAborted, rise}
+use Rattle.model.specs.State.{State, state, withControl}
 use Rattle.model.specs.Answers.{Outcome, outcome}
 
 -- "Its cells become used", "cells free": the n cells from c on
@@ -39,20 +42,21 @@ retire s meter c = outcome (Done 0) (withControl s (withEntry (freed (s .control
 -- 3 "BEGIN a = meter. The target is the lowest free run of the record's length. Its cells become used, the flag is set, begun
 -- rises by one, passed marks are cleared, the stage is first barrier. Answer 21, value target."
 abbrev pub firstMove : ℕ → ℕ → ℕ → Move
-firstMove meter from target = withStage (record { stage = 0; meter = meter; from = from; target = target; copied = 0 }) firstBarrier
+firstMove meter from target = record { stage = stageNumber firstBarrier; meter = meter; from = from; target = target; copied = 0 }
 
 abbrev pub begin : State → ℕ → ℕ → ℕ → Outcome
 begin s meter from target =
     outcome (Begun target)
-    (state (withBegun (withMove (taken (s .control) target (cellsAt (s .arena) from)) (firstMove meter from target)) (rise (s .control .begun)))
-    (set (s .arena) (place from 0) (flagged from))
-    (clearMarks (s .table)))
+    (state
+    (withBegun (withMove (taken (s .control) target (cellsAt (s .arena) from)) (firstMove meter from target))
+    (rise (s .control .begun)))
+    (set (s .arena) (place from 0) (flagged from)) (clearMarks (s .table)))
 
--- 4 ADVANCE, by stage
+-- 4 ADVANCE, by stage: the move in hand
 abbrev pub moveOf : State → Move
 moveOf s = s .control .mv
 
--- "if any row has not passed, answer 22, nothing changes; else .."
+-- at each barrier: "if any row has not passed, answer 22, nothing changes; else .."
 unfoldable pub barrier : State → Outcome → Outcome
 barrier s beyond = pick (allPassed (s .table)) beyond (outcome BarrierOpen s)
 
@@ -84,16 +88,17 @@ abbrev pub commit : State → Outcome
 commit s =
     outcome (Committed (moveOf s .target))
     (state
-    (withCommitted (withMove (withEntry (s .control) (moveOf s .meter) (moveOf s .target)) (withStage (moveOf s) thirdBarrier)) (rise (s .control .committed)))
-    (set (s .arena) (place (moveOf s .from) 0) (plain (moveOf s .target)))
-    (clearMarks (s .table)))
+    (withCommitted (withMove (withEntry (s .control) (moveOf s .meter) (moveOf s .target)) (withStage (moveOf s) thirdBarrier))
+    (rise (s .control .committed)))
+    (set (s .arena) (place (moveOf s .from) 0) (plain (moveOf s .target))) (clearMarks (s .table)))
 
 -- "Not equal: the replica's cells are freed, aborted rises, no move in hand, answer 26."
 abbrev pub callOff : State → Outcome
 callOff s =
     outcome CalledOff
     (withControl s
-    (withAborted (withMove (freed (s .control) (moveOf s .target) (cellsAt (s .arena) (moveOf s .from))) noMove) (rise (s .control .aborted))))
+    (withAborted (withMove (freed (s .control) (moveOf s .target) (cellsAt (s .arena) (moveOf s .from))) noMove)
+    (rise (s .control .aborted))))
 
 -- "Else compare the header with 2 × from + 1."
 unfoldable pub settle : State → Outcome
@@ -103,6 +108,7 @@ settle s = pick (eqb (header (s .arena) (moveOf s .from)) (flagged (moveOf s .fr
 abbrev pub giveBack : State → Outcome
 giveBack s = outcome GivenBack (withControl s (withMove (freed (s .control) (moveOf s .from) (cellsAt (s .arena) (moveOf s .from))) noMove))
 
+-- with no move in hand it was refused by 9
 abbrev pub advance : State → Stage → Outcome
 advance s idle = outcome (Refused 9) s
 advance s firstBarrier = barrier s (startCopying s)

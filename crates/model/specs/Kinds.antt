@@ -4,10 +4,11 @@ use Prim.Native.Nat.{ℕ}
 use lib.ListN.{getD}
 use Rattle.model.specs.declared.Lengths.{Lengths}
 
--- | cells | words | payload words |
+-- a line of it: cells, words, payload words
 abbrev pub lengths : ℕ → ℕ → ℕ → Lengths
 lengths c w p = record { cells = c; words = w; payload = p }
 
+-- kinds 0 to 3
 unfoldable pub kindTable : List Lengths
 kindTable = lengths 1 8 6 ∷ lengths 2 16 14 ∷ lengths 4 32 30 ∷ lengths 8 64 62 ∷ []
 

@@ -4,8 +4,8 @@ pub mod Records
 pub mod CellMap
 pub mod Rows
 pub mod State
-pub mod Answers
 pub mod Fresh
+pub mod Answers
 pub mod KeeperSteps
 pub mod ClientSteps
 pub mod Refusals

@@ -47,7 +47,7 @@ moving c = inHand (stageOf (c .mv .stage))
 abbrev pub holdsCell : ℕ → Row → Bool
 holdsCell c r = any (eqb c) (r .holds)
 
--- what each step of the keeper may be refused by
+-- what each step of the keeper may be refused by. "ADMIT is allowed during a move.": no 8
 abbrev pub admitRefusals : Control → ℕ → ℕ → List Refusal
 admitRefusals c meter kind =
     5 if badMeter meter ∷ 5 if badKind kind ∷ 7 if not (isNone (entry (c .dir) meter))
@@ -65,7 +65,7 @@ beginRefusals c arena meter =
 abbrev pub advanceRefusals : Control → List Refusal
 advanceRefusals c = 9 if not (moving c) ∷ []
 
--- what each step of a client may be refused by
+-- what each step of a client may be refused by. ATTACH: "and code is not 10", so no 6
 abbrev pub attachRefusals : Row → List Refusal
 attachRefusals r = 7 if r .attached ∷ []
 

@@ -70,12 +70,12 @@ lateRight dir v arena =
     and eqb (label arena (v .from)) (label arena (v .target))
     and leb (v .from + cellsAt arena (v .from)) 1024
 
+-- "a stage that is none" breaks R2 too
 unfoldable pub R2 : List ℕ → Move → List ℕ → Bool
 R2 dir v arena = ltb (v .stage) 5 and (isEarly v ⇒ earlyRight dir v arena) and (isLate v ⇒ lateRight dir v arena)
 
 -- R3 "Used cells are exactly those of present records and of the move's other block; none lies in two.": each cell is covered by
--- as many blocks as its bit says
--- 1 where cell x is one of the n cells from c on
+-- as many blocks as its bit says. 1 where cell x is one of the n cells from c on
 unfoldable pub covers : ℕ → ℕ → ℕ → ℕ
 covers c n x = one (leb c x and ltb x (c + n))
 
@@ -158,8 +158,7 @@ unfoldable pub R7 : Move → ℕ → ℕ → ℕ → Bool
 R7 v begun committed aborted = eqb begun (committed + aborted + one (isEarly v))
 
 -- R8 "Swaps ≤ begun. While a header is flagged, swaps < begun, and a row waiting on another record has swaps + 1 < begun. While none
--- is flagged, a waiting row has swaps < begun."
--- by R4 the only header that can be flagged is the moved record's
+-- is flagged, a waiting row has swaps < begun." By R4 the only header that can be flagged is the moved record's.
 unfoldable pub flagUp : Move → List ℕ → Bool
 flagUp v arena = isEarly v and eqb (header arena (v .from)) (flagged (v .from))
 

@@ -16,7 +16,8 @@ use Rattle.model.specs.State.{stageOf, entry, State, withArena, withRow,
 use Rattle.model.specs.Answers.{Outcome, outcome}
 use Rattle.model.specs.KeeperSteps.{moveOf, admit, retire, begin, advance}
 use Rattle.model.specs.ClientSteps.{attach, detach, openHold, dropHold, loadHeader, go, rest, changed}
-use Rattle.model.specs.Refusals.{Refusal, _if_, refuse, admitRefusals, retireRefusals, beginRefusals, advanceRefusals, attachRefusals, restRefusals, openRefusals, dropRefusals, accessRefusals, goRefusals}
+use Rattle.model.specs.Refusals.{Refusal, _if_, refuse, admitRefusals, retireRefusals, beginRefusals, advanceRefusals}
+use Rattle.model.specs.Refusals.{attachRefusals, restRefusals, openRefusals, dropRefusals, accessRefusals, goRefusals}
 
 pub record Step : Type 0 where
   pub who : ℕ
@@ -51,11 +52,11 @@ named (suc client) code = pick (ltb client 8) (getD clientCodes code UNKNOWN) NO
 abbrev pub nameOf : Step → Name
 nameOf t = named (t .who) (t .code)
 
--- the client's own row
+-- the row of the client whose step it is
 abbrev pub ownRow : State → Step → Row
 ownRow s t = rowOf s (t .who)
 
--- the lines of the refusal table that speak of a step, in rising order
+-- the lines of the refusal table that speak of a step, in rising order; 3 "who above 8", 4 "code is not one of that party's"
 abbrev pub refusals : Name → State → Step → List Refusal
 refusals ADMIT s t = admitRefusals (s .control) (t .a) (t .b)
 refusals RETIRE s t = retireRefusals (s .control) (s .table) (t .a)

@@ -41,7 +41,7 @@ pub struct Move {
 }
 
 // "The control record": "a directory of 256 meters, each absent (65535) or a start cell; a map with one bit per cell, set when
-// used; the move in hand; the counts begun, committed, aborted (32 bits)"
+// used; the move in hand .. the counts begun, committed, aborted (32 bits)"
 pub struct Control {
     pub dir: [u16; 256],
     pub map: [u64; 16],
