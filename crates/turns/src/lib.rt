@@ -167,8 +167,8 @@ fn client(
         }
         16 => {
             let o = clients::go(arena, row);
-            let change = o.change;
-            record::apply(arena, change);
+            let put = o.change;
+            record::apply(arena, put);
             keep_swap(table, i, o)
         }
         17 => {

@@ -64,6 +64,8 @@ loop-less c =
     let n = c .before .before .before .before .before in
     omega (arith, step-below _ _ _ (sym (n .before .before .has-step .ensures) ∙ n .before .if1 .taken))
 
+-- The match is left in four ways: by the move alone, by the keeper, by a client, by nobody. Each is one turn; w lists a way's facts in the
+-- order of the code, and last what it leaves of arena, table, control record and answer.
 loop-again : tie.Need-loop-again Inv-loop μ-loop
 loop-again c =
     let j = c .before .before .before .before .match in
