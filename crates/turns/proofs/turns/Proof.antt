@@ -10,7 +10,6 @@ use lib.ListN.{length}
 use Rattle.model.specs.State.{withMove}
 use Rattle.model.specs.Calls.{stepAt}
 use Rattle.turns.specs.Turns.{lent, going, turnsFrom}
-use Rattle.turns.specs.declared.Turned.{Turned}
 use Rattle.turns.proofs.Loop.{Took, took-by, step-below, turns-stop, turns-more}
 use Rattle.turns.proofs.Names.{turn-by-move, turn-by-keeper, turn-by-client, turn-by-nobody}
 use Rattle.turns.proofs.turns.Statement.{statement}
@@ -79,22 +78,22 @@ loop-again c =
     (λ w.
     let q = rw (s, w .2 .ensures) at (w .4 .ensures) in
     let r = rw (w .2 .ensures) at (w .8 .ensures) in
-    took-by (turn-by-move _ _ (rw s at (w .0 .keys1)) (sym q ∙ w .5 .taken)) (w .16 ∙ ap (withMove (l .control)) (r .mv))
-    (w .14 ∙ r .arena) (w .15 ∙ r .table) (w .17 ∙ r .answer) (rw (w .14) (w .8 .kept .0)) (rw (w .15) (w .8 .kept .1 .0))
+    took-by (turn-by-move _ _ (rw s at (w .0 .keys1)) (sym q ∙ w .5 .taken)) (rw (w .16) (ap (withMove (l .control)) (r .mv)))
+    (rw (w .14) (r .arena)) (rw (w .15) (r .table)) (rw (w .17) (r .answer)) (rw (w .14) (w .8 .kept .0)) (rw (w .15) (w .8 .kept .1 .0))
     (rw (w .16) (l .inv .5)))
     (⊎-elim
     (λ w.
     let q = rw (s, w .2 .ensures) at (w .4 .ensures) in
     let r = rw s at (w .8 .ensures) in
     let d : length (w .8 .result .control .dir) ≡ 256 = search (needs, w .8 .ok .1 .1 .0 .1 .1 .0) in
-    took-by (turn-by-keeper _ _ (rw s at (w .0 .keys1)) (sym q ∙ w .5 .left)) (w .16 ∙ ap (λ (x : Turned). x .control) (r .result))
-    (w .14 ∙ r .arena) (w .15 ∙ r .table) (w .17 ∙ ap (λ (x : Turned). x .answer) (r .result)) (rw (w .14) (w .8 .kept .1 .0))
+    took-by (turn-by-keeper _ _ (rw s at (w .0 .keys1)) (sym q ∙ w .5 .left)) (rw (w .16, r .result))
+    (rw (w .14) (r .arena)) (rw (w .15) (r .table)) (rw (w .17, r .result)) (rw (w .14) (w .8 .kept .1 .0))
     (rw (w .15) (w .8 .kept .1 .1 .0)) (rw (w .16) d))
     (⊎-elim
     (λ w.
     let r = rw s at (w .6 .ensures) in
-    took-by (turn-by-client _ _ (rw s at (w .0 .rest .1)) (rw s at (w .1 .taken))) (w .13) (w .11 ∙ r .arena) (w .12 ∙ r .table)
-    (w .14 ∙ r .answer) (rw (w .11) (w .6 .kept .0)) (rw (w .12) (w .6 .kept .1 .0)) (rw (w .13) (l .inv .5)))
+    took-by (turn-by-client _ _ (rw s at (w .0 .rest .1)) (rw s at (w .1 .taken))) (w .13) (rw (w .11) (r .arena))
+    (rw (w .12) (r .table)) (rw (w .14) (r .answer)) (rw (w .11) (w .6 .kept .0)) (rw (w .12) (w .6 .kept .1 .0)) (rw (w .13) (l .inv .5)))
     (λ w.
     took-by (turn-by-nobody _ _ (rw s at (w .1 .left))) (w .4) (w .2) (w .3) (w .5) (rw (w .2)) (rw (w .3)) (rw (w .4) (l .inv .5)))))
     (j .came) in (
