@@ -6,18 +6,16 @@ use mathlib.Core.List.{List, [], _∷_}
 use Prim.Native.Nat.{ℕ, zero, suc, _*_, _/_, _%_, _≤_, _<_}
 use native.Mathlib.Omega.{arith}
 use lib.Dec.{eqb, leb, ltb}
-use lib.ListN.{length, getD, replicate}
+use lib.ListN.{length, replicate}
 use borrow.Author.Tests.{eqb-true, leb-true, ltb-true, lt-ltb}
 use Rattle.model.specs.declared.Answer.{Answer}
 use Rattle.model.specs.declared.Answer.the-variants.{Refused, Done}
 use Rattle.model.specs.declared.Control.{Control}
 use Rattle.model.specs.declared.Row.{Row}
 use Rattle.model.specs.Choice.{_and_}
-use Rattle.model.specs.Records.{none}
 use Rattle.model.specs.CellMap.{fill}
 use Rattle.model.specs.State.{State}
 use Rattle.model.specs.Answers.{Outcome, outcome, number}
-use Rattle.model.specs.Refusals.{_if_}
 use Rattle.model.specs.Fresh.{freshControl}
 use Rattle.model.specs.Steps.{Step, step, refused, act}
 use Rattle.model.specs.Rules.{firstBroken}
@@ -27,7 +25,6 @@ use Rattle.model.proofs.Choice.{by-test, and-parts}
 use Rattle.model.proofs.Records.{laid-all}
 use Rattle.model.proofs.Refusals.{refused-by-given, accepted-by-given}
 use Rattle.model.proofs.Answered.{Answered, answered}
-use Rattle.model.proofs.Fresh.{fresh-absent}
 use Rattle.table.specs.Words.{tableWords, rowsOf, eachRow, freshen}
 use Rattle.table.proofs.Rows.{fresh-rows}
 use Rattle.turns.specs.declared.Turned.{Turned}
@@ -35,7 +32,7 @@ use Rattle.turns.specs.Turns.{Lent, lent, going, turnsFrom, RunDoes}
 use Rattle.turns.proofs.Acts.{lentOf}
 use Rattle.turns.proofs.Runs.{Went, run-steps, run-one}
 use Rattle.archive.specs.declared.Reply.{Reply}
-use Rattle.archive.specs.Does.{meant, wordsAfter, CallDoes, LookDoes, refusalOf, rightSizes}
+use Rattle.archive.specs.Does.{meant, wordsAfter, CallDoes, LookDoes, callRefusals, refusalOf, rightSizes}
 use Rattle.archive.specs.Does as does
 use Rattle.archive.proofs.Tests.{Passes, passes, size-test}
 
@@ -46,18 +43,18 @@ reply c x = record { control = c; answer = x }
 module _ (s : State) (n : ℕ) (e : n ≡ refusalOf s) where
   pub step-refused : (t : Step) → 0 < n → stepCall s t ≡ refused s n
   unfolding stepCall refusalOf
-  step-refused t h = rw e (refused-by-given (1 if wrongSize s ∷ 2 if unsound s ∷ []) (refused s) (act s t) (rw e at h))
+  step-refused t h = rw e (refused-by-given (callRefusals s) (refused s) (act s t) (rw e at h))
 
   pub fill-refused : 0 < n → fillCall s ≡ refused s n
   unfolding fillCall refusalOf
   fill-refused h =
-      rw e (refused-by-given (1 if wrongSize s ∷ 2 if unsound s ∷ []) (refused s) (outcome (Done (fill (s .control .map))) s) (rw e at h))
+      rw e (refused-by-given (callRefusals s) (refused s) (outcome (Done (fill (s .control .map))) s) (rw e at h))
 
   pub run-refused : (ws slots : List ℕ) → runSizes ws slots ≡ true → 0 < n → runCall s ws slots ≡ ran (Refused n) slots s
   unfolding runCall refusalOf
   run-refused ws slots r h =
       rw (r, e)
-      (refused-by-given (1 if wrongSize s ∷ 2 if unsound s ∷ []) (λ k. ran (Refused k) slots s) (oneByOne act s (stepsOf ws)) (rw e at h))
+      (refused-by-given (callRefusals s) (λ k. ran (Refused k) slots s) (oneByOne act s (stepsOf ws)) (rw e at h))
 
 pub run-wrong-sizes : (s : State) (ws slots : List ℕ) → runSizes ws slots ≡ false → runCall s ws slots ≡ ran (Refused 1) slots s
 unfolding runCall
@@ -109,12 +106,6 @@ module _ (c : Control) (a t : List ℕ) where
         table = g ∙ fresh-rows t (eqb-true (length t) 96 (p .1));
       })
 
-  -- "A fresh directory has all 256 meters absent.": each entry of the directory that fresh replies with
-  pub fresh-entries : {r : Reply} {b u : List ℕ} → rightSizes a t ≡ true → CallDoes t r b u (freshCall (meant c a t))
-      → (m : ℕ) → m < 256 → getD (r .control .dir) m 0 ≡ none
-  unfolding freshCall
-  fresh-entries {r} e d m h = let f : r .control ≡ freshControl = rw (size-test c a t, e) at (d .control) in rw f (fresh-absent m h)
-
   pub audit-stays : rightSizes a t ≡ false → LookDoes (reply c (Refused 1)) (auditCall (meant c a t))
   unfolding auditCall
   audit-stays e = rw (size-test c a t, e) (record { answer = refl; control = refl })
@@ -130,7 +121,7 @@ module _ (c : Control) (a t : List ℕ) where
   unfolding fillCall refusalOf
   fill-goes n e f =
       let s : State = meant c a t in
-      rw (accepted-by-given (1 if wrongSize s ∷ 2 if unsound s ∷ []) (refused s) (outcome (Done (fill (c .map))) s) refl e)
+      rw (accepted-by-given (callRefusals s) (refused s) (outcome (Done (fill (c .map))) s) refl e)
       (record { answer = ap Done f; control = refl })
 
 -- A step that is not refused by 1 or 2: where it is refused by another number the words are as before
@@ -152,7 +143,7 @@ step-goes c a t slots who code x y v {r} {b} {u} {w} e l d =
     let T : Step = step who code x y v in
     let ws : List ℕ = who ∷ code ∷ x ∷ y ∷ v ∷ [] in
     let P : Passes c a t = passes c a t e in
-    let o : stepCall s T ≡ act s T = accepted-by-given (1 if wrongSize s ∷ 2 if unsound s ∷ []) (refused s) (act s T) refl e in
+    let o : stepCall s T ≡ act s T = accepted-by-given (callRefusals s) (refused s) (act s T) refl e in
     let g : RunDoes b u w r (turnsFrom ws 0 4096 (going (lentOf s) slots (Done 0))) = rw (P .words) d in
     let h = rw (run-one ws slots (Done 0) s (P .rows) refl l) at g in
     let A : Answered s (act s T) = rw o at (answered s T) in
@@ -196,7 +187,7 @@ run-goes c a t ws slots {r} {b} {u} {w} q e d =
     let fives : length ws % 5 ≡ 0 = eqb-true (length ws % 5) 0 (f .0) in
     let twos : length slots ≡ 2 * (length ws / 5) = eqb-true (length slots) (2 * (length ws / 5)) (f .1) in
     let o : runCall s ws slots ≡ R =
-    rw q (accepted-by-given (1 if wrongSize s ∷ 2 if unsound s ∷ []) (λ n. ran (Refused n) slots s) R refl e) in
+    rw q (accepted-by-given (callRefusals s) (λ n. ran (Refused n) slots s) R refl e) in
     let g : RunDoes b u w r (turnsFrom ws 0 4096 (going (lentOf s) slots (Done 0))) = rw (P .words) d in
     let W : Went slots 0 (turnsFrom ws 0 4096 (going (lentOf s) slots (Done 0))) R =
     run-steps (length ws / 5) 4096 0 ws slots (Done 0) s (P .rows) (omega arith) refl (omega arith) (omega arith) in

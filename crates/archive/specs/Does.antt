@@ -11,7 +11,7 @@ use Rattle.model.specs.declared.Answer.{Answer}
 use Rattle.model.specs.Choice.{pick, _and_}
 use Rattle.model.specs.State.{State, state}
 use Rattle.model.specs.Answers.{Outcome, number}
-use Rattle.model.specs.Refusals.{_if_, refuse}
+use Rattle.model.specs.Refusals.{Refusal, _if_, refuse}
 use Rattle.model.specs.Calls.{wrongSize, unsound, Ran}
 use Rattle.table.specs.Words.{tableWords, rowsOf}
 use Rattle.archive.specs.declared.Reply.{Reply}
@@ -48,8 +48,11 @@ pub record LookDoes (r : Reply) (o : Outcome) : Type 0 where
   pub control : r .control ≡ o .next .control
 
 -- 1 and 2, or 0 where neither applies
+abbrev pub callRefusals : State → List Refusal
+callRefusals s = 1 if wrongSize s ∷ 2 if unsound s ∷ []
+
 unfoldable pub refusalOf : State → ℕ
-refusalOf s = refuse (1 if wrongSize s ∷ 2 if unsound s ∷ []) (λ n. n) 0
+refusalOf s = refuse (callRefusals s) (λ n. n) 0
 
 -- "arena is not 8,192 words, or table not eight rows" of twelve words
 unfoldable pub rightSizes : List ℕ → List ℕ → Bool

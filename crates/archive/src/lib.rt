@@ -28,11 +28,7 @@ const NONE: u16 = 65535;
 fn right_sizes(arena: &[u32], table: &[u32]) -> bool
     ensures { λ r. ⌜ r ≡ rightSizes (now (arena .entry)) (now (table .entry)) ⌝ }
 {
-    if arena.len() == WORDS {
-        table.len() == TABLE
-    } else {
-        false
-    }
+    arena.len() == WORDS && table.len() == TABLE
 }
 
 // 1 or 2, the lower that applies; else 0.
@@ -176,11 +172,11 @@ pub fn run(
 pub fn fill(control: Control, arena: &[u32], table: &[u32]) -> Reply
     ensures { λ r. ⌜ LookDoes r (fillCall (meant control (now (arena .entry)) (now (table .entry)))) ⌝ }
 {
-    let n = refusal(control, arena, table);
-    if 0 < n {
+    let k = refusal(control, arena, table);
+    if 0 < k {
         return Reply {
             control,
-            answer: Answer::Refused(n),
+            answer: Answer::Refused(k),
         };
     }
     let map = control.map;

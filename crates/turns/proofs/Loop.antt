@@ -11,9 +11,10 @@ use borrow.Author.Tests.{ltb-true, lt-ltb, le-ltb}
 use Rattle.model.specs.declared.Answer.{Answer}
 use Rattle.model.specs.declared.Control.{Control}
 use Rattle.model.specs.Choice.{_and_}
+use Rattle.model.specs.Steps.{Step}
 use Rattle.model.specs.Calls.{stepAt}
 use Rattle.model.proofs.Choice.{and-parts}
-use Rattle.turns.specs.Turns.{lent, Turn, turnOn, Going, going, toldAs, putTold, hasStep, after, turnsFrom}
+use Rattle.turns.specs.Turns.{Lent, lent, Turn, turnOn, Going, going, toldAs, putTold, hasStep, after, turnsFrom}
 
 -- whether there is a step i
 pub step-there : (words slots i : ℕ) → i < 4096 → 5 * i + 4 < words → 2 * i + 1 < slots → hasStep words slots i ≡ true
@@ -45,16 +46,39 @@ pub turns-next : (ws : List ℕ) (i n : ℕ) (g : Going) → hasStep (length ws)
 unfolding turnsFrom
 turns-next ws i n g e = rw e
 
+-- what is lent and answered after a step; arena, table and directory are as long as before
+pub record Took (l : Lent) (t : Step) (d : Control) (b u : List ℕ) (y : Answer) : Type 0 where
+  control : d ≡ turnOn l t .next .control
+  arena : b ≡ turnOn l t .next .arena
+  table : u ≡ turnOn l t .next .table
+  answer : y ≡ turnOn l t .answer
+  pub arena-length : length b ≡ length (l .arena)
+  pub table-length : length u ≡ length (l .table)
+  pub entries : length (d .dir) ≡ 256
+
+pub took-by : {l : Lent} {t : Step} {o : Turn} {d : Control} {b u : List ℕ} {y : Answer} → turnOn l t ≡ o
+    → d ≡ o .next .control → b ≡ o .next .arena → u ≡ o .next .table → y ≡ o .answer
+    → length b ≡ length (l .arena) → length u ≡ length (l .table) → length (d .dir) ≡ 256 → Took l t d b u y
+took-by e c a t x m n k =
+    record {
+      control = rw e c;
+      arena = rw e a;
+      table = rw e t;
+      answer = rw e x;
+      arena-length = m;
+      table-length = n;
+      entries = k;
+    }
+
 -- what the loop keeps: the whole run is the turns that are left, on what is lent now
 pub turns-more : (ws : List ℕ) (i : ℕ) (whole : Going) (c : Control) (a t s : List ℕ) (x : Answer)
-    {o : Turn} {d : Control} {b u v : List ℕ} {y : Answer}
+    {d : Control} {b u v : List ℕ} {y : Answer}
     → whole ≡ turnsFrom ws i (4096 - i) (going (lent c a t) s x) → hasStep (length ws) (length s) i ≡ true
-    → turnOn (lent c a t) (stepAt ws i) ≡ o
-    → d ≡ o .next .control → b ≡ o .next .arena → u ≡ o .next .table → y ≡ o .answer → v ≡ putTold s i (toldAs y)
+    → Took (lent c a t) (stepAt ws i) d b u y → v ≡ putTold s i (toldAs y)
     → whole ≡ turnsFrom ws (i + 1) (4096 - (i + 1)) (going (lent d b u) v y)
-turns-more ws i whole c a t s x w h e ec ea et ey ev =
+turns-more ws i whole c a t s x w h o ev =
     let k : 4096 - i ≡ suc (4096 - (i + 1)) = omega (arith, step-below (length ws) (length s) i h) in
     let g : Going = going (lent c a t) s x in
     let n : turnsFrom ws i (4096 - i) g ≡ turnsFrom ws (suc i) (4096 - (i + 1)) (after i g (turnOn (lent c a t) (stepAt ws i))) =
     rw k (turns-next ws i (4096 - (i + 1)) g h) in
-    w ∙ (n ∙ rw (e, ev, ey, ec, ea, et, add-one i))
+    w ∙ (n ∙ rw (ev, o .answer, o .control, o .arena, o .table, add-one i))

@@ -31,8 +31,11 @@ use Rattle.turns.specs.declared.Moving.{Moving}
 use Rattle.turns.specs.declared.Turned.{Turned}
 
 -- 01's number and value of an answer
+abbrev pub toldOf : ℕ → ℕ → Told
+toldOf n x = record { number = n; value = x }
+
 abbrev pub toldAs : Answer → Told
-toldAs x = record { number = number x; value = value x }
+toldAs x = toldOf (number x) (value x)
 
 -- "five words each": the numbers of step i
 abbrev pub numbersAt : List ℕ → ℕ → Numbers

@@ -3,12 +3,11 @@
 ghost use mathlib.Core.Path.{_≡_};
 ghost use lib.ListN.{length, getD};
 ghost use Rattle.model.specs.declared.Answer.the-variants.{Done};
-ghost use Rattle.model.specs.Choice.{_and_};
 ghost use Rattle.model.specs.State.{stageOf};
 ghost use Rattle.model.specs.Steps.{keeperCodes, clientCodes, UNKNOWN};
 ghost use Rattle.keeper.specs.Kept.{advanceMove};
 ghost use Rattle.table.specs.Words.{putRow, putPhase, putSwaps};
-ghost use Rattle.turns.specs.Turns.{toldAs, numbersAt, clientLeft, lent, clearIf, keptTurn, keeperTurn, byMove};
+ghost use Rattle.turns.specs.Turns.{toldOf, toldAs, numbersAt, clientLeft, lent, clearIf, keptTurn, keeperTurn, byMove};
 ghost use Rattle.turns.specs.Turns.{going, putTold, hasStep, turnsFrom, LeftDoes, MoveDoes, TurnDoes, RunDoes};
 use model::Answer;
 use model::Control;
@@ -42,75 +41,33 @@ pub struct Turned {
     pub answer: Answer,
 }
 
+fn say(number: u32, value: u32) -> Told
+    ensures { λ r. ⌜ r ≡ toldOf number value ⌝ }
+{
+    Told { number, value }
+}
+
 // "Values not named are 0."
 pub fn tell(answer: Answer) -> Told
     ensures { λ r. ⌜ r ≡ toldAs answer ⌝ }
 {
     match answer {
-        Answer::Refused(n) => Told {
-            number: n,
-            value: 0,
-        },
-        Answer::Admitted(c) => Told {
-            number: 20,
-            value: c,
-        },
-        Answer::Begun(target) => Told {
-            number: 21,
-            value: target,
-        },
-        Answer::BarrierOpen => Told {
-            number: 22,
-            value: 0,
-        },
-        Answer::CopyingStarts => Told {
-            number: 23,
-            value: 0,
-        },
-        Answer::Copied(n) => Told {
-            number: 24,
-            value: n,
-        },
-        Answer::Committed(target) => Told {
-            number: 25,
-            value: target,
-        },
-        Answer::CalledOff => Told {
-            number: 26,
-            value: 0,
-        },
-        Answer::GivenBack => Told {
-            number: 27,
-            value: 0,
-        },
-        Answer::Done(x) => Told {
-            number: 30,
-            value: x,
-        },
-        Answer::ReadyAt(target) => Told {
-            number: 31,
-            value: target,
-        },
-        Answer::WaitsOn(c) => Told {
-            number: 32,
-            value: c,
-        },
-        Answer::SwapWon => Told {
-            number: 33,
-            value: 1,
-        },
-        Answer::SwapLost => Told {
-            number: 33,
-            value: 0,
-        },
-        Answer::Got(x) => Told {
-            number: 34,
-            value: x,
-        },
-        Answer::Written => Told {
-            number: 35,
-            value: 0,
-        },
+        Answer::Refused(n) => say(n, 0),
+        Answer::Admitted(c) => say(20, c),
+        Answer::Begun(target) => say(21, target),
+        Answer::BarrierOpen => say(22, 0),
+        Answer::CopyingStarts => say(23, 0),
+        Answer::Copied(n) => say(24, n),
+        Answer::Committed(target) => say(25, target),
+        Answer::CalledOff => say(26, 0),
+        Answer::GivenBack => say(27, 0),
+        Answer::Done(x) => say(30, x),
+        Answer::ReadyAt(target) => say(31, target),
+        Answer::WaitsOn(c) => say(32, c),
+        Answer::SwapWon => say(33, 1),
+        Answer::SwapLost => say(33, 0),
+        Answer::Got(x) => say(34, x),
+        Answer::Written => say(35, 0),
     }
 }
 
@@ -210,8 +167,8 @@ fn client(
         }
         16 => {
             let o = clients::go(arena, row);
-            let change = o.change;
-            record::apply(arena, change);
+            let put = o.change;
+            record::apply(arena, put);
             keep_swap(table, i, o)
         }
         17 => {
@@ -234,11 +191,7 @@ fn clear_if(table: &mut [u32], clear: bool)
 fn by_move(code: u32, mv: Move, passed: bool) -> bool
     ensures { λ r. ⌜ r ≡ byMove code mv passed ⌝ }
 {
-    if code == 4 {
-        !keeper::closes(mv, passed)
-    } else {
-        false
-    }
+    code == 4 && !keeper::closes(mv, passed)
 }
 
 // 4 ADVANCE on the move alone.
@@ -304,18 +257,12 @@ fn keep(control: Control, arena: &mut [u32], table: &mut [u32], code: u32, a: u3
     }
 }
 
-fn both(a: bool, b: bool) -> bool
-    ensures { λ r. ⌜ r ≡ (a and b) ⌝ }
-{
-    if a { b } else { false }
-}
-
 // Whether there is a step i, and a slot for it: the bounds of both, shown to the loop.
 fn has_step(words: usize, slots: usize, i: u32) -> bool
     ensures { λ r. ⌜ r ≡ hasStep words slots i ⌝ }
 {
     let k = i as usize;
-    both(i < 4096, both(5 * k + 4 < words, 2 * k + 1 < slots))
+    i < 4096 && (5 * k + 4 < words && 2 * k + 1 < slots)
 }
 
 // The steps one by one, each answered in its slot; "a refused step inside it only fills its own slot".
@@ -327,15 +274,14 @@ pub fn turns(
     slots: &mut [u32],
 ) -> Turned
     ensures { λ r. ⌜ RunDoes (now (arena .exit)) (now (table .exit)) (now (slots .exit)) r
-        (turnsFrom (now (steps .entry)) 0 4096 (going (lent was (now (arena .entry)) (now (table .entry))) (now (slots .entry)) (Done 0))) ⌝ }
+        (turnsFrom (now (steps .entry)) 0 4096
+        (going (lent was (now (arena .entry)) (now (table .entry))) (now (slots .entry)) (Done 0))) ⌝ }
 {
     let mut control = was;
-    let mut last = Answer::Done(0);
+    let mut answer = Answer::Done(0);
     let mut i: u32 = 0;
     while has_step(steps.len(), slots.len(), i) {
-        let at = i;
-        i += 1;
-        let s = numbers_at(steps, at);
+        let s = numbers_at(steps, i);
         let who = s.who;
         match who {
             0 => {
@@ -344,29 +290,20 @@ pub fn turns(
                 if by_move(s.code, mv, passed) {
                     let o = advance(arena, table, mv, passed);
                     let next = o.mv;
-                    last = o.answer;
+                    answer = o.answer;
                     control.mv = next;
-                    put_answer(slots, at, last);
                 } else {
                     let o = keep(control, arena, table, s.code, s.a, s.b);
                     let next = o.control;
-                    last = o.answer;
+                    answer = o.answer;
                     control = next;
-                    put_answer(slots, at, last);
                 }
             }
-            1..=8 => {
-                last = client(arena, table, &control.dir, who - 1, s.code, s.a, s.b, s.v);
-                put_answer(slots, at, last);
-            }
-            _ => {
-                last = Answer::Refused(3);
-                put_answer(slots, at, last);
-            }
+            1..=8 => answer = client(arena, table, &control.dir, who - 1, s.code, s.a, s.b, s.v),
+            _ => answer = Answer::Refused(3),
         }
+        put_answer(slots, i, answer);
+        i += 1;
     }
-    Turned {
-        control,
-        answer: last,
-    }
+    Turned { control, answer }
 }

@@ -7,7 +7,7 @@ use Rattle.archive.proofs.run_sizes.Tie as tie
 
 returns : tie.Need-returns
 unfolding runSizes
-returns c = simp (lt-leb _ _ (c .if1 .taken))
+returns c = simp (lt-leb _ 20480 (c .if1 .taken))
 
 returns-2 : tie.Need-returns-2
 unfolding runSizes

@@ -2,6 +2,7 @@
 use denote.Ref.{now}
 use borrow.Author.Needs.{needs}
 use mathlib.Core.Path.{ap, _∙_}
+use Rattle.model.specs.ClientSteps.{changed}
 use Rattle.keeper.specs.declared.Moved.{Moved}
 use Rattle.turns.specs.Turns.{clearIf}
 use Rattle.turns.proofs.advance.Statement.{statement}
@@ -26,10 +27,10 @@ returns : tie.Need-returns
 returns c =
     let b = c .before .before .before .before .before .before in
     let o = b .before .before .before .advance .ensures in
-    let table = now (b .before .before .before .before .before .before .before .args .table) in
+    let s = b .before .before .before .before .before .before .before .args in
     record {
-      arena = rw o at (b .apply .ensures);
-      table = c .before .before .clear-if .ensures ∙ ap (λ (x : Moved). clearIf (x .clear) table) o;
+      arena = b .apply .ensures ∙ ap (λ (x : Moved). changed (now (s .arena)) (x .change)) o;
+      table = c .before .before .clear-if .ensures ∙ ap (λ (x : Moved). clearIf (x .clear) (now (s .table))) o;
       mv = rw o;
       answer = rw o;
     }

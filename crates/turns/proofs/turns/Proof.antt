@@ -2,36 +2,34 @@
 -- Assumes nothing.
 use denote.Ref.{now}
 use borrow.Author.Needs.{needs}
+use mathlib.Core.Logic.{⊎-elim}
 use mathlib.Core.Path.{_≡_, refl, sym, ap, _∙_}
 use Prim.Native.Nat.{_≤_, _-_}
 use native.Mathlib.Omega.{arith}
 use lib.ListN.{length}
 use Rattle.model.specs.State.{withMove}
+use Rattle.model.specs.Calls.{stepAt}
 use Rattle.turns.specs.Turns.{lent, going, turnsFrom}
-use Rattle.turns.specs.declared.Turned.{Turned}
-use Rattle.turns.proofs.Loop.{step-below, turns-stop, turns-more}
+use Rattle.turns.proofs.Loop.{Took, took-by, step-below, turns-stop, turns-more}
 use Rattle.turns.proofs.Names.{turn-by-move, turn-by-keeper, turn-by-client, turn-by-nobody}
 use Rattle.turns.proofs.turns.Statement.{statement}
 use Rattle.turns.proofs.turns.Tie as tie
 
 abbrev Inv-loop : tie.InvT-loop
-Inv-loop arena₀ table₀ steps slots₀ control₀ last₀ i₀ arena table slots control last i =
-    (turnsFrom steps 0 4096 (going (lent control₀ arena₀ table₀) slots₀ last₀)
-    ≡ turnsFrom steps i (4096 - i) (going (lent control arena table) slots last))
+Inv-loop arena₀ table₀ steps slots₀ control₀ answer₀ i₀ arena table slots control answer i =
+    (turnsFrom steps 0 4096 (going (lent control₀ arena₀ table₀) slots₀ answer₀)
+    ≡ turnsFrom steps i (4096 - i) (going (lent control arena table) slots answer))
     × (i ≤ 4096) × (length arena ≡ length arena₀) × (length table ≡ length table₀) × (length slots ≡ length slots₀)
     × (length (control .dir) ≡ 256)
 
 abbrev μ-loop : tie.MeasureT-loop
-μ-loop arena₀ table₀ steps slots₀ control₀ last₀ i₀ arena table slots control last i = 4096 - i
+μ-loop arena₀ table₀ steps slots₀ control₀ answer₀ i₀ arena table slots control answer i = 4096 - i
 
 loop-holds : tie.Need-loop-holds Inv-loop μ-loop
 loop-holds c = (refl, search needs, refl, refl, refl, search needs)
 
 has-step-requires : tie.Need-has-step-requires Inv-loop μ-loop
 has-step-requires c κs = search needs
-
-add-i : tie.Need-add-i Inv-loop μ-loop
-add-i c = search needs
 
 numbers-at-requires : tie.Need-numbers-at-requires Inv-loop μ-loop
 numbers-at-requires c κs = search needs
@@ -45,71 +43,8 @@ by-move-requires c κs = search needs
 advance-requires : tie.Need-advance-requires Inv-loop μ-loop
 advance-requires c κs = search needs
 
-put-answer-requires : tie.Need-put-answer-requires Inv-loop μ-loop
-put-answer-requires c κs = search needs
-
-loop-less : tie.Need-loop-less Inv-loop μ-loop
-loop-less c =
-    let b = c .before .before .before .before .before .before .before .before .before in
-    let n = b .before .before .before .before .before .before .before .before .before in
-    omega (arith, step-below _ _ _ (sym (n .before .before .has-step .ensures) ∙ n .before .if1 .taken))
-
-loop-again : tie.Need-loop-again Inv-loop μ-loop
-loop-again c = let b = c .before .before .before .before .before .before .before .before .before in
-    let m = b .before .before .before .before in
-    let n = b .before .before .before .before .before .before .before .before .before in
-    let l = n .before .before .before .loop in
-    let steps = now (n .before .before .before .before .before .before .before .before .args .steps) in
-    let h = sym (n .before .before .has-step .ensures) ∙ n .before .if1 .taken in
-    let s = n .numbers-at .ensures in
-    let p = m .before .before .all-passed .ensures in
-    let q = rw (s, p) at (m .by-move .ensures) in
-    let r = rw p at (b .advance .ensures) in (
-      turns-more steps (l .i) _ (l .control) (l .arena) (l .table) (l .slots) (l .last) (l .inv .0) h
-          (turn-by-move _ _ (rw s at (b .before .before .before .before .before .before .before .before .match .keys1))
-          (sym q ∙ b .before .before .before .if2 .taken))
-          (ap (withMove (l .control)) (r .mv)) (r .arena) (r .table) (r .answer) (c .before .before .put-answer .ensures),
-      omega (arith, step-below _ _ _ h),
-      b .advance .kept .0 ∙ l .inv .2,
-      b .advance .kept .1 .0 ∙ l .inv .3,
-      c .before .before .put-answer .kept .0 ∙ l .inv .4,
-      l .inv .5,
-    )
-
 keep-requires : tie.Need-keep-requires Inv-loop μ-loop
 keep-requires c κs = search needs
-
-put-answer-requires-2 : tie.Need-put-answer-requires-2 Inv-loop μ-loop
-put-answer-requires-2 c κs = search needs
-
-loop-less-2 : tie.Need-loop-less-2 Inv-loop μ-loop
-loop-less-2 c =
-    let b = c .before .before .before .before .before .before .before .before .before in
-    let n = b .before .before .before .before .before .before .before .before .before in
-    omega (arith, step-below _ _ _ (sym (n .before .before .has-step .ensures) ∙ n .before .if1 .taken))
-
-loop-again-2 : tie.Need-loop-again-2 Inv-loop μ-loop
-loop-again-2 c = let b = c .before .before .before .before .before .before .before .before .before in
-    let d : length (b .keep .result .control .dir) ≡ 256 = search needs in
-    let m = b .before .before .before .before in
-    let n = b .before .before .before .before .before .before .before .before .before in
-    let l = n .before .before .before .loop in
-    let steps = now (n .before .before .before .before .before .before .before .before .args .steps) in
-    let h = sym (n .before .before .has-step .ensures) ∙ n .before .if1 .taken in
-    let s = n .numbers-at .ensures in
-    let q = rw (s, m .before .before .all-passed .ensures) at (m .by-move .ensures) in
-    let r = rw s at (b .keep .ensures) in (
-      turns-more steps (l .i) _ (l .control) (l .arena) (l .table) (l .slots) (l .last) (l .inv .0) h
-          (turn-by-keeper _ _ (rw s at (b .before .before .before .before .before .before .before .before .match .keys1))
-          (sym q ∙ b .before .before .before .if2 .left))
-          (ap (λ (x : Turned). x .control) (r .result)) (r .arena) (r .table) (ap (λ (x : Turned). x .answer) (r .result))
-          (c .before .before .put-answer2 .ensures),
-      omega (arith, step-below _ _ _ h),
-      b .keep .kept .1 .0 ∙ l .inv .2,
-      b .keep .kept .1 .1 .0 ∙ l .inv .3,
-      c .before .before .put-answer2 .kept .0 ∙ l .inv .4,
-      d,
-    )
 
 sub-client : tie.Need-sub-client Inv-loop μ-loop
 sub-client c = search needs
@@ -117,55 +52,58 @@ sub-client c = search needs
 client-requires : tie.Need-client-requires Inv-loop μ-loop
 client-requires c κs = let n = c .before .before .before .before .before .before in n .before .before .before .loop .inv .5
 
-put-answer-requires-3 : tie.Need-put-answer-requires-3 Inv-loop μ-loop
-put-answer-requires-3 c κs = search needs
+put-answer-requires : tie.Need-put-answer-requires Inv-loop μ-loop
+put-answer-requires c κs = search needs
 
-loop-less-3 : tie.Need-loop-less-3 Inv-loop μ-loop
-loop-less-3 c =
-    let b = c .before .before .before .before .before .before .before .before .before in
-    let n = b .before .before .before .before .before .before in
+add-i : tie.Need-add-i Inv-loop μ-loop
+add-i c = search needs
+
+loop-less : tie.Need-loop-less Inv-loop μ-loop
+loop-less c =
+    let n = c .before .before .before .before .before in
     omega (arith, step-below _ _ _ (sym (n .before .before .has-step .ensures) ∙ n .before .if1 .taken))
 
-loop-again-3 : tie.Need-loop-again-3 Inv-loop μ-loop
-loop-again-3 c = let b = c .before .before .before .before .before .before .before .before in
-    let n = b .before .before .before .before .before .before .before in
+-- The match is left in four ways: by the move alone, by the keeper, by a client, by nobody. Each is one turn; w lists a way's facts in the
+-- order of the code, and last what it leaves of arena, table, control record and answer.
+loop-again : tie.Need-loop-again Inv-loop μ-loop
+loop-again c =
+    let j = c .before .before .before .before .match in
+    let n = c .before .before .before .before .before in
     let l = n .before .before .before .loop in
     let steps = now (n .before .before .before .before .before .before .before .before .args .steps) in
     let h = sym (n .before .before .has-step .ensures) ∙ n .before .if1 .taken in
     let s = n .numbers-at .ensures in
-    let r = rw s at (b .client .ensures) in (
-      turns-more steps (l .i) _ (l .control) (l .arena) (l .table) (l .slots) (l .last) (l .inv .0) h
-          (turn-by-client _ _ (rw s at (b .before .before .before .before .before .before .match .rest .1))
-          (rw s at (b .before .before .before .before .before .if3 .taken)))
-          refl (r .arena) (r .table) (r .answer) (c .before .before .put-answer3 .ensures),
+    let t : Took (lent (l .control) (l .arena) (l .table)) (stepAt steps (l .i)) (j .control) (j .arena) (j .table) (j .answer) =
+    ⊎-elim
+    (λ w.
+    let q = rw (s, w .2 .ensures) at (w .4 .ensures) in
+    let r = rw (w .2 .ensures) at (w .8 .ensures) in
+    took-by (turn-by-move _ _ (rw s at (w .0 .keys1)) (sym q ∙ w .5 .taken)) (rw (w .16) (ap (withMove (l .control)) (r .mv)))
+    (rw (w .14) (r .arena)) (rw (w .15) (r .table)) (rw (w .17) (r .answer)) (rw (w .14) (w .8 .kept .0)) (rw (w .15) (w .8 .kept .1 .0))
+    (rw (w .16) (l .inv .5)))
+    (⊎-elim
+    (λ w.
+    let q = rw (s, w .2 .ensures) at (w .4 .ensures) in
+    let r = rw s at (w .8 .ensures) in
+    let d : length (w .8 .result .control .dir) ≡ 256 = search (needs, w .8 .ok .1 .1 .0 .1 .1 .0) in
+    took-by (turn-by-keeper _ _ (rw s at (w .0 .keys1)) (sym q ∙ w .5 .left)) (rw (w .16, r .result))
+    (rw (w .14) (r .arena)) (rw (w .15) (r .table)) (rw (w .17, r .result)) (rw (w .14) (w .8 .kept .1 .0))
+    (rw (w .15) (w .8 .kept .1 .1 .0)) (rw (w .16) d))
+    (⊎-elim
+    (λ w.
+    let r = rw s at (w .6 .ensures) in
+    took-by (turn-by-client _ _ (rw s at (w .0 .rest .1)) (rw s at (w .1 .taken))) (w .13) (rw (w .11) (r .arena))
+    (rw (w .12) (r .table)) (rw (w .14) (r .answer)) (rw (w .11) (w .6 .kept .0)) (rw (w .12) (w .6 .kept .1 .0)) (rw (w .13) (l .inv .5)))
+    (λ w.
+    took-by (turn-by-nobody _ _ (rw s at (w .1 .left))) (w .4) (w .2) (w .3) (w .5) (rw (w .2)) (rw (w .3)) (rw (w .4) (l .inv .5)))))
+    (j .came) in (
+      turns-more steps (l .i) _ (l .control) (l .arena) (l .table) (l .slots) (l .answer) (l .inv .0) h t
+          (c .before .before .put-answer .ensures),
       omega (arith, step-below _ _ _ h),
-      b .client .kept .0 ∙ l .inv .2,
-      b .client .kept .1 .0 ∙ l .inv .3,
-      c .before .before .put-answer3 .kept .0 ∙ l .inv .4,
-      l .inv .5,
-    )
-
-put-answer-requires-4 : tie.Need-put-answer-requires-4 Inv-loop μ-loop
-put-answer-requires-4 c κs = search needs
-
-loop-less-4 : tie.Need-loop-less-4 Inv-loop μ-loop
-loop-less-4 c = let n = c .before .before .before .before .before .before in
-    omega (arith, step-below _ _ _ (sym (n .before .before .has-step .ensures) ∙ n .before .if1 .taken))
-
-loop-again-4 : tie.Need-loop-again-4 Inv-loop μ-loop
-loop-again-4 c = let n = c .before .before .before .before .before .before in
-    let l = n .before .before .before .loop in
-    let steps = now (n .before .before .before .before .before .before .before .before .args .steps) in
-    let h = sym (n .before .before .has-step .ensures) ∙ n .before .if1 .taken in
-    let s = n .numbers-at .ensures in (
-      turns-more steps (l .i) _ (l .control) (l .arena) (l .table) (l .slots) (l .last) (l .inv .0) h
-          (turn-by-nobody _ _ (rw s at (c .before .before .before .before .if3 .left)))
-          refl refl refl refl (c .before .before .put-answer4 .ensures),
-      omega (arith, step-below _ _ _ h),
-      l .inv .2,
-      l .inv .3,
-      c .before .before .put-answer4 .kept .0 ∙ l .inv .4,
-      l .inv .5,
+      t .arena-length ∙ l .inv .2,
+      t .table-length ∙ l .inv .3,
+      c .before .before .put-answer .kept .0 ∙ l .inv .4,
+      t .entries,
     )
 
 same-length : tie.Need-same-length Inv-loop μ-loop
@@ -190,26 +128,17 @@ turns-spec =
     μ-loop
     loop-holds
     has-step-requires
-    add-i
     numbers-at-requires
     all-passed-requires
     by-move-requires
     advance-requires
-    put-answer-requires
-    loop-less
-    loop-again
     keep-requires
-    put-answer-requires-2
-    loop-less-2
-    loop-again-2
     sub-client
     client-requires
-    put-answer-requires-3
-    loop-less-3
-    loop-again-3
-    put-answer-requires-4
-    loop-less-4
-    loop-again-4
+    put-answer-requires
+    add-i
+    loop-less
+    loop-again
     same-length
     same-length-2
     same-length-3
