@@ -4,7 +4,7 @@ ghost use mathlib.Core.Path.{_≡_};
 ghost use Prim.Native.Nat.{_<_};
 ghost use lib.ListN.{length};
 ghost use Rattle.model.specs.Records.{cellsAt};
-ghost use Rattle.model.specs.State.{stageOf, entry};
+ghost use Rattle.model.specs.State.{stageOf};
 ghost use Rattle.model.specs.Rules.{early, late, R3};
 ghost use Rattle.model.specs.Choice.{every};
 ghost use Rattle.model.proofs.CellMap.{IsMap};
@@ -14,30 +14,10 @@ const CELLS: u32 = 1024;
 
 const METERS: u32 = 256;
 
-const NONE: u32 = 65535;
-
 // The start and the cells of a block.
 pub struct Block {
     pub start: u32,
     pub cells: u32,
-}
-
-fn wide(x: u16) -> u32
-    ensures { λ r. ⌜ r ≡ x ⌝ }
-{
-    x as u32
-}
-
-// The directory's entry of a meter; a meter above 255 is absent.
-pub fn entry_of(dir: &[u16; 256], meter: u32) -> u32
-    requires { ⌜ length (now dir) ≡ 256 ⌝ }
-    ensures { λ r. ⌜ r ≡ entry (now (dir .entry)) meter ⌝ }
-{
-    if meter < METERS {
-        wide(dir[meter as usize])
-    } else {
-        NONE
-    }
 }
 
 // "its first three stages"; "the third barrier"
@@ -141,7 +121,7 @@ pub fn cells_right(dir: &[u16; 256], map: &[u64; 16], mv: model::Move, arena: &[
     let mut seen: [u64; 16] = [0; 16];
     let mut m: u32 = 0;
     while m < METERS {
-        if !lay_record(&mut seen, arena, entry_of(dir, m)) {
+        if !lay_record(&mut seen, arena, directory::entry_of(dir, m) as u32) {
             return false;
         }
         m += 1;

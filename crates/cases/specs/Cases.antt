@@ -4,11 +4,11 @@ use mathlib.Core.List.{List, [], _∷_, _++_}
 use Prim.Native.Nat.{ℕ, zero, suc, _*_}
 use lib.Dec.{T, eqb}
 use lib.ListN.{take}
-use Rattle.model.specs.declared.Row.{Row}
 use Rattle.model.specs.Choice.{_and_, all, total}
 use Rattle.model.specs.Kinds.{kindTable, ofKind}
 use Rattle.model.specs.Records.{laid}
 use Rattle.model.specs.CellMap.{bit, withBit, used, put, putRun, countUsed, fill, freeCells, runAt, lowestFrom, lowestRun}
+use Rattle.model.specs.Rows.{swapsOf}
 use Rattle.model.specs.State.{State, rise}
 use Rattle.model.specs.Answers.{number, value}
 use Rattle.model.specs.Fresh.{fresh}
@@ -136,9 +136,6 @@ table =
     ∷ []
 
 -- what a case says of the state that it has come to
-abbrev swapsOf : Row → ℕ
-swapsOf r = r .swaps
-
 abbrev totalsOf : State → List ℕ
 totalsOf s =
     let c = s .control in

@@ -1,4 +1,3 @@
-pub mod Holds
 pub mod Headers
 pub mod Turns
 pub mod Acts

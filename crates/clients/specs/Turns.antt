@@ -1,5 +1,4 @@
 -- A client's turn: its step refused by the lowest number that applies, or done; on its own row and the arena.
-use mathlib.Core.Bool.{Bool, true, false}
 use mathlib.Core.List.{List}
 use Prim.Native.Nat.{ℕ}
 use Rattle.model.specs.declared.Access.{Access}
@@ -35,10 +34,6 @@ dropTurn r h = turn (dropRefusals r h) r (dropHold r h)
 -- READ and WRITE
 abbrev pub accessTurn : List ℕ → Row → Access → Stepped
 accessTurn arena r x = turn (accessRefusals arena r (holdOf x) (wordOf x)) r (loadHeader arena r x)
-
-abbrev pub accessOf : Bool → ℕ → ℕ → ℕ → Access
-accessOf true h w v = Write h w v
-accessOf false h w v = Read h w
 
 abbrev pub goTurn : List ℕ → Row → Stepped
 goTurn arena r = turn (goRefusals r) r (go arena r (r .phase))

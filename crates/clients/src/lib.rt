@@ -1,76 +1,28 @@
 // The clients' steps, 10 to 17, on one row by value and the arena as it is; the one word that a step may change goes back in its result.
 // Knows nothing of directory, map, move or soundness: every step is total, and equals its turn on every row and arena.
 ghost use mathlib.Core.Path.{_≡_};
-ghost use lib.Dec.{eqb};
-ghost use lib.ListN.{getD, set};
 ghost use mathlib.Core.List.{map};
-ghost use Rattle.model.specs.Choice.{pick};
-ghost use Rattle.model.specs.Records.{none, flagged};
-ghost use Rattle.model.specs.Rows.{busy, withPhase, withSwaps};
+ghost use Rattle.model.specs.Rows.{accessOf, withPhase, withSwaps};
 ghost use Rattle.model.specs.State.{rise};
 ghost use Rattle.model.specs.ClientSteps.{done, atHeader, swap, finish, forwarded};
 ghost use Rattle.model.specs.Refusals.{restRefusals, openRefusals, dropRefusals, accessRefusals};
 ghost use Rattle.model.proofs.Refusals.{given};
-ghost use Rattle.clients.specs.Turns.{refusedTurn, accessOf};
-ghost use Rattle.clients.specs.Turns.{attachTurn, detachTurn, openTurn, dropTurn, accessTurn, goTurn, restTurn};
+ghost use Rattle.clients.specs.Turns.{refusedTurn, attachTurn, detachTurn, openTurn, dropTurn, accessTurn, goTurn, restTurn};
 use model::Access;
 use model::Answer;
 use model::Change;
 use model::Phase;
 use model::Row;
 use model::Stepped;
+use row::access_of;
+use row::choose;
+use row::hold_of;
+use row::is_busy;
+use row::set_hold;
+use row::with_phase;
 
 // "each empty (65535) or a cell"
 const NONE: u32 = 65535;
-
-fn choose(test: bool, x: u32, y: u32) -> u32
-    ensures { λ r. ⌜ r ≡ pick test x y ⌝ }
-{
-    if test { x } else { y }
-}
-
-fn is_busy(phase: Phase) -> bool
-    ensures { λ r. ⌜ r ≡ busy phase ⌝ }
-{
-    match phase {
-        Phase::Resting => false,
-        Phase::Ready(_, _) => true,
-        Phase::Waiting(_, _) => true,
-    }
-}
-
-// Four selects and no branch; a hold above 3 is empty.
-fn hold_of(holds: [u32; 4], hold: u32) -> u32
-    ensures { λ r. ⌜ r ≡ getD holds hold none ⌝ }
-{
-    let h3 = choose(hold == 3, holds[3], NONE);
-    let h2 = choose(hold == 2, holds[2], h3);
-    let h1 = choose(hold == 1, holds[1], h2);
-    choose(hold == 0, holds[0], h1)
-}
-
-fn set_hold(holds: [u32; 4], hold: u32, cell: u32) -> [u32; 4]
-    ensures { λ r. ⌜ r ≡ set holds hold cell ⌝ }
-{
-    let mut next = holds;
-    if hold < 4 {
-        next[hold as usize] = cell;
-    }
-    next
-}
-
-fn with_phase(row: Row, phase: Phase) -> Row
-    ensures { λ r. ⌜ r ≡ withPhase row phase ⌝ }
-{
-    let holds = row.holds;
-    Row {
-        attached: row.attached,
-        passed: row.passed,
-        holds,
-        swaps: row.swaps,
-        phase,
-    }
-}
 
 // "All answer 30."
 fn done(row: Row) -> Stepped
@@ -210,16 +162,6 @@ pub fn drop_hold(row: Row, hold: u32) -> Stepped
     done(next)
 }
 
-fn access_of(write: bool, hold: u32, word: u32, value: u32) -> Access
-    ensures { λ r. ⌜ r ≡ accessOf write hold word value ⌝ }
-{
-    if write {
-        Access::Write { hold, word, value }
-    } else {
-        Access::Read { hold, word }
-    }
-}
-
 // "Flag 0: ready at its target, answer 31 with the target. Flag 1: waiting, answer 32 with the record's cell."
 fn at_header(row: Row, x: Access, cell: u32, h: u32) -> Stepped
     ensures { λ r. ⌜ r ≡ atHeader row x cell h ⌝ }
@@ -261,18 +203,6 @@ pub fn start_access(
     at_header(row, access_of(write, hold, word, value), cell, h)
 }
 
-// "the header is 2 × cell + 1"
-fn is_flagged(h: u32, cell: u32) -> bool
-    ensures { λ r. ⌜ r ≡ eqb h (flagged cell) ⌝ }
-{
-    let header = record::unpack(h);
-    if header.flag {
-        header.target == cell
-    } else {
-        false
-    }
-}
-
 // "Swaps rises by one in both."
 fn with_swap(row: Row, phase: Phase) -> Row
     ensures { λ r. ⌜ r ≡ withPhase (withSwaps row (rise (row .swaps))) phase ⌝ }
@@ -293,7 +223,7 @@ fn swap(arena: &[u32], row: Row, cell: u32, x: Access) -> Stepped
     ensures { λ r. ⌜ r ≡ swap (now (arena .entry)) row cell x ⌝ }
 {
     let h = record::header_at(arena, cell);
-    if is_flagged(h, cell) {
+    if record::is_flagged(h, cell) {
         Stepped {
             row: with_swap(row, Phase::Ready(cell, x)),
             change: Change::Put {

@@ -13,7 +13,7 @@ use Rattle.model.specs.declared.Answer.the-variants.{Refused, BarrierOpen}
 use Rattle.model.specs.declared.Row.{Row}
 use Rattle.model.specs.Choice.{total}
 use Rattle.model.specs.Records.{flagged}
-use Rattle.model.specs.Rows.{freshRow, clearMarks}
+use Rattle.model.specs.Rows.{swapsOf, freshRow, clearMarks}
 use Rattle.model.specs.State.{State}
 use Rattle.model.specs.Answers.{number, Outcome}
 use Rattle.model.specs.Steps.{Step}
@@ -28,9 +28,6 @@ use Rattle.demands.proofs.Did.{acts, Kept, admits, retires, begins, sta
 use Rattle.demands.proofs.Always.{always}
 use Rattle.demands.proofs.Counted.{hits}
 use Rattle.demands.proofs.MoveCounts.{begun-is-answered, aborted-is-answered}
-
-abbrev pub swapsOf : Row → ℕ
-swapsOf r = r .swaps
 
 -- sums over a table
 total-set : (k : List Row) (i : ℕ) (r d : Row) → i < length k → total swapsOf (set k i r) + getD k i d .swaps ≡ total swapsOf k + r .swaps

@@ -11,7 +11,7 @@ use Rattle.model.specs.Kinds.{cells}
 use Rattle.model.specs.Records.{header, start, flagged, cellsAt, wordsAt, newRecord, laid}
 use Rattle.model.specs.CellMap.{lowestRun}
 use Rattle.model.specs.Rows.{allPassed}
-use Rattle.model.specs.State.{Stage, idle, firstBarrier, copying, secondBarrier, thirdBarrier, stageOf, inHand, rise, entry, State, state}
+use Rattle.model.specs.State.{Stage, idle, firstBarrier, copying, secondBarrier, thirdBarrier, stageOf, inHand, rise, entry, State}
 use Rattle.model.specs.KeeperSteps.{moveOf, barrier, startCopying, copied, copyWord, settle, advance}
 use Rattle.model.specs.Refusals.{Refusal, refuse, holdsCell, admitRefusals, beginRefusals, retireRefusals}
 use Rattle.model.specs.Steps.{Step, Name, ADMIT, RETIRE, BEGIN, ADVANCE, nameOf, refusals, effect, refused, act}
@@ -19,7 +19,9 @@ use Rattle.model.proofs.Choice.{pick-map}
 use Rattle.model.proofs.Refusals.{refuse-map}
 use Rattle.keeper.specs.declared.Moved.{Moved}
 use Rattle.keeper.specs.declared.Kept.{Kept}
-use Rattle.keeper.specs.Kept.{refusedKept, stays, openFirst, copyMove, commitKept, callOffKept, settleKept, giveBackKept, onMove, advanceKept, retiredKept, retireStep, begunKept, beginStep, admittedKept, admitStep, admitArena, placed, placedWith}
+use Rattle.keeper.specs.Kept.{refusedKept, stays, openFirst, copyMove, commitKept, callOffKept, settleKept, giveBackKept, onMove}
+use Rattle.keeper.specs.Kept.{advanceKept, retiredKept, retireStep, begunKept, beginStep, admittedKept, admitStep, admitArena}
+use Rattle.keeper.specs.Kept.{placed, placedWith}
 
 -- a step by its name
 act-named : (s : State) (t : Step) (x : Name) → nameOf t ≡ x → act s t ≡ refuse (refusals x s t) (refused s) (effect x s t)

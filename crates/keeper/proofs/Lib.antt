@@ -1,4 +1,3 @@
 pub mod Stages
-pub mod Entries
 pub mod Ways
 pub mod Acts

@@ -10,13 +10,15 @@ use Rattle.model.specs.declared.Control.{Control}
 use Rattle.model.specs.declared.Change.{Change}
 use Rattle.model.specs.declared.Change.the-variants.{Nothing, Put}
 use Rattle.model.specs.declared.Answer.{Answer}
-use Rattle.model.specs.declared.Answer.the-variants.{Refused, Admitted, Begun, BarrierOpen, CopyingStarts, Copied, Committed, CalledOff, GivenBack, Done}
+use Rattle.model.specs.declared.Answer.the-variants.{Refused, Admitted, Begun, BarrierOpen, CopyingStarts, Copied, Committed, CalledOff}
+use Rattle.model.specs.declared.Answer.the-variants.{GivenBack, Done}
 use Rattle.model.specs.Choice.{pick}
 use Rattle.model.specs.Kinds.{cells}
 use Rattle.model.specs.Records.{none, start, place, header, plain, flagged, cellsAt, wordsAt, newRecord, laid}
 use Rattle.model.specs.CellMap.{lowestRun}
 use Rattle.model.specs.Rows.{clearMarks}
-use Rattle.model.specs.State.{State, state, Stage, idle, firstBarrier, copying, secondBarrier, thirdBarrier, stageOf, inHand, stageNumber, noMove, withStage, withMove, withBegun, withCommitted, withAborted, rise, entry}
+use Rattle.model.specs.State.{State, state, Stage, idle, firstBarrier, copying, secondBarrier, thirdBarrier, stageOf, inHand}
+use Rattle.model.specs.State.{stageNumber, noMove, withStage, withMove, withBegun, withCommitted, withAborted, rise, entry}
 use Rattle.model.specs.Answers.{Outcome, outcome}
 use Rattle.model.specs.ClientSteps.{changed}
 use Rattle.model.specs.KeeperSteps.{taken, freed, withEntry, firstMove, replicaWord}

@@ -1,13 +1,17 @@
 // The keeper's steps. What needs the move alone goes by the move; the rest takes the control record by value and gives it back.
 // Knows nothing of rows: whether all have passed, and whether some row holds a record, is told; the caller clears the marks.
 ghost use mathlib.Core.Path.{_≡_};
-ghost use lib.ListN.{length, set};
+ghost use lib.ListN.{length};
 ghost use Rattle.model.specs.CellMap.{putRun};
 ghost use Rattle.model.specs.Records.{plain, flagged, cellsAt};
-ghost use Rattle.model.specs.State.{stageOf, inHand, rise, entry};
+ghost use Rattle.model.specs.State.{stageOf, inHand, rise};
 ghost use Rattle.model.specs.KeeperSteps.{replicaWord};
 ghost use Rattle.model.proofs.Refusals.{given};
-ghost use Rattle.keeper.specs.Kept.{refusedKept, stays, openFirst, oneCopied, copyMove, advanceMove, commitKept, callOffKept, settleKept, giveBackKept, closing, closeKept, recordRefusals, newRefusals, retireStep, beginStep, admitStep, admitArena};
+ghost use Rattle.keeper.specs.Kept.{refusedKept, stays, openFirst, oneCopied, copyMove, advanceMove, commitKept, callOffKept};
+ghost use Rattle.keeper.specs.Kept.{settleKept, giveBackKept, closing, closeKept, recordRefusals, newRefusals, retireStep};
+ghost use Rattle.keeper.specs.Kept.{beginStep, admitStep, admitArena};
+use directory::entry_of;
+use directory::set_entry;
 use model::Answer;
 use model::Change;
 use model::Control;
@@ -77,28 +81,6 @@ fn in_hand(stage: u32) -> bool
     match stage {
         1..=4 => true,
         _ => false,
-    }
-}
-
-// The directory's entry of a meter; a meter above 255 is absent.
-pub fn entry_of(dir: &[u16; 256], meter: u32) -> u16
-    requires { ⌜ length (now dir) ≡ 256 ⌝ }
-    ensures { λ r. ⌜ r ≡ entry (now (dir .entry)) meter ⌝ }
-{
-    if meter < 256 {
-        dir[meter as usize]
-    } else {
-        NONE
-    }
-}
-
-// The entry of a meter becomes a cell; a meter above 255 has none.
-fn set_entry(dir: &mut [u16; 256], meter: u32, cell: u16)
-    requires { ⌜ length (now dir) ≡ 256 ⌝ }
-    ensures { λ r. ⌜ now (dir .exit) ≡ set (now (dir .entry)) meter cell ⌝ }
-{
-    if meter < 256 {
-        dir[meter as usize] = cell;
     }
 }
 

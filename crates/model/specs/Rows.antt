@@ -28,6 +28,10 @@ abbrev pub valueOf : Access → ℕ
 valueOf (Read h w) = 0
 valueOf (Write h w v) = v
 
+abbrev pub accessOf : Bool → ℕ → ℕ → ℕ → Access
+accessOf true h w v = Write h w v
+accessOf false h w v = Read h w
+
 -- a busy row is one that does not rest
 abbrev pub busy : Phase → Bool
 busy Resting = false
@@ -40,6 +44,10 @@ hold r h = getD (r .holds) h none
 
 abbrev pub emptyHolds : List ℕ
 emptyHolds = none ∷ none ∷ none ∷ none ∷ []
+
+-- "swaps made"
+abbrev pub swapsOf : Row → ℕ
+swapsOf r = r .swaps
 
 -- the row with one part changed
 abbrev pub withAttached : Row → Bool → Row

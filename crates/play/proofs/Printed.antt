@@ -10,6 +10,7 @@ use lib.Seq.{sets, sets-eq, take-append-seam, length-take-le}
 use Rattle.model.specs.declared.Control.{Control}
 use Rattle.model.specs.Choice.{total}
 use Rattle.model.specs.CellMap.{fill}
+use Rattle.model.specs.Rows.{swapsOf}
 use Rattle.model.specs.State.{State}
 use Rattle.model.specs.Fresh.{fresh}
 use Rattle.model.specs.Steps.{Step, act}
@@ -20,7 +21,7 @@ use Rattle.demands.specs.Log.{after}
 use Rattle.demands.proofs.Kept.{after-sizes}
 use Rattle.demands.proofs.MoveCounts.{begun-is-answered, committed-is-answered, aborted-is-answered, moves-end-once}
 use Rattle.demands.proofs.SwapCounts.{all-swaps-are-answered, all-swaps-at-most-begun}
-use Rattle.table.specs.Words.{tableWords, rowsRead, swapsOf}
+use Rattle.table.specs.Words.{tableWords, rowsRead}
 use Rattle.table.proofs.FourHolds.{four-of-all}
 use Rattle.table.proofs.Rows.{rows-read}
 use Rattle.archive.specs.Does.{meant}

@@ -1,9 +1,10 @@
 // The words of a record: header and label packed and unpacked, the kind table, one word of the arena read or written.
 // Knows nothing of directory, map, clients or soundness; each function is total.
 ghost use mathlib.Core.Path.{_≡_};
+ghost use lib.Dec.{eqb};
 ghost use lib.ListN.{getD, set, replicate};
 ghost use Rattle.model.specs.Kinds.{ofKind};
-ghost use Rattle.model.specs.Records.{start, place, header, label, labelOf, kindOf, payloadPlace, newRecord, laid};
+ghost use Rattle.model.specs.Records.{start, place, header, plain, flagged, label, labelOf, kindOf, payloadPlace, newRecord, laid};
 ghost use Rattle.model.specs.ClientSteps.{changed};
 ghost use Rattle.record.specs.Words.{unpacked, packed, unpackedLabel};
 
@@ -58,6 +59,28 @@ pub fn pack(target: u32, flag: bool) -> u32
     (target << 1) | (flag as u32)
 }
 
+// "2 × cell": the header of a record that is not being copied.
+pub fn is_plain(h: u32, cell: u32) -> bool
+    ensures { λ r. ⌜ r ≡ eqb h (plain cell) ⌝ }
+{
+    let x = unpack(h);
+    if x.flag {
+        return false;
+    }
+    x.target == cell
+}
+
+// "2 × cell + 1": of one that is.
+pub fn is_flagged(h: u32, cell: u32) -> bool
+    ensures { λ r. ⌜ r ≡ eqb h (flagged cell) ⌝ }
+{
+    let header = unpack(h);
+    if !header.flag {
+        return false;
+    }
+    header.target == cell
+}
+
 pub fn unpack_label(l: u32) -> Label
     ensures { λ r. ⌜ r ≡ unpackedLabel l ⌝ }
 {
@@ -67,7 +90,7 @@ pub fn unpack_label(l: u32) -> Label
     }
 }
 
-pub fn pack_label(meter: u8, kind: u8) -> u32
+fn pack_label(meter: u8, kind: u8) -> u32
     ensures { λ r. ⌜ r ≡ labelOf meter kind ⌝ }
 {
     ((meter as u32) << 2) + (kind as u32)
@@ -124,11 +147,18 @@ pub fn header_at(arena: &[u32], cell: u32) -> u32
     load(arena, place(cell, 0))
 }
 
+// "Word 1 is the label"
+pub fn label_at(arena: &[u32], cell: u32) -> u32
+    ensures { λ r. ⌜ r ≡ label (now (arena .entry)) cell ⌝ }
+{
+    load(arena, place(cell, 1))
+}
+
 // "kind read from" the label of the record at a cell.
 pub fn lengths_at(arena: &[u32], cell: u32) -> model::Lengths
     ensures { λ r. ⌜ r ≡ ofKind (kindOf (label (now (arena .entry)) cell)) ⌝ }
 {
-    let l = unpack_label(load(arena, place(cell, 1)));
+    let l = unpack_label(label_at(arena, cell));
     lengths_of(l.kind)
 }
 

@@ -6,6 +6,7 @@ use lib.ListN.{length, getD}
 use Rattle.model.specs.declared.Row.{Row}
 use Rattle.model.specs.Choice.{pick, total}
 use Rattle.model.specs.CellMap.{fill}
+use Rattle.model.specs.Rows.{swapsOf}
 use Rattle.model.specs.State.{State}
 use Rattle.model.specs.Fresh.{fresh}
 use Rattle.model.specs.Steps.{Step, step, act}
@@ -33,9 +34,6 @@ answerLines (n ∷ v ∷ slots) = line2 n v ++ answerLines slots
 unfoldable pub fiveTotals : ℕ → ℕ → ℕ → ℕ → ℕ → List ℕ
 fiveTotals begun committed aborted swaps filled =
     line1 5 ++ (line1 begun ++ (line1 committed ++ (line1 aborted ++ (line1 swaps ++ line1 filled))))
-
-abbrev pub swapsOf : Row → ℕ
-swapsOf r = r .swaps
 
 abbrev pub allSwaps : List Row → ℕ
 allSwaps table = total swapsOf table

@@ -1,6 +1,6 @@
 -- The client table in words, twelve to a row: 0 attached, 1 passed, 2 to 5 the holds, 6 swaps, 7 phase, 8 cell, 9 hold, 10 word, 11 value.
 -- A row has one encoding; any other contents mean no row: "Row bytes that mean no row .. break R6".
-use mathlib.Core.Bool.{Bool, true, false, not}
+use mathlib.Core.Bool.{Bool, false, not}
 use mathlib.Core.List.{List, [], _∷_, _++_}
 use Prim.Native.Nat.{ℕ, zero, suc, _+_, _*_, _%_}
 use lib.Dec.{eqb, ltb, leb}
@@ -12,7 +12,7 @@ use Rattle.model.specs.declared.Phase.the-variants.{Resting, Ready, Waiting}
 use Rattle.model.specs.declared.Row.{Row}
 use Rattle.model.specs.Choice.{pick, one, _and_, _or_}
 use Rattle.model.specs.Records.{laid}
-use Rattle.model.specs.Rows.{emptyHolds, freshRow}
+use Rattle.model.specs.Rows.{accessOf, emptyHolds, freshRow}
 use Rattle.table.specs.declared.PhaseWords.{PhaseWords}
 
 -- "its phase: resting, ready at a cell, or waiting to swap on a record. The last two carry the access (read or write, hold, word,
@@ -33,11 +33,14 @@ abbrev pub listed : PhaseWords → List ℕ
 listed p = p .tag ∷ p .cell ∷ p .hold ∷ p .word ∷ p .value ∷ []
 
 -- "A row has: attached or not; passed or not; four holds, each empty (65535) or a cell; swaps made (32 bits); and its phase"
-abbrev pub rowWords : Row → List ℕ
-rowWords r =
+abbrev pub frontWords : Row → List ℕ
+frontWords r =
     one (r .attached) ∷ one (r .passed)
     ∷ getD (r .holds) 0 0 ∷ getD (r .holds) 1 0 ∷ getD (r .holds) 2 0 ∷ getD (r .holds) 3 0
-    ∷ r .swaps ∷ listed (phaseWords (r .phase))
+    ∷ r .swaps ∷ []
+
+abbrev pub rowWords : Row → List ℕ
+rowWords r = frontWords r ++ listed (phaseWords (r .phase))
 
 unfoldable pub tableWords : List Row → List ℕ
 tableWords [] = []
@@ -50,10 +53,6 @@ noRow = record { attached = false; passed = false; holds = emptyHolds; swaps = 0
 -- twelve words lie in t from k on
 abbrev pub whole : List ℕ → ℕ → Bool
 whole t k = ltb (k + 11) (length t)
-
-abbrev pub accessOf : Bool → ℕ → ℕ → ℕ → Access
-accessOf true h w v = Write h w v
-accessOf false h w v = Read h w
 
 unfoldable pub phaseOf : ℕ → ℕ → ℕ → ℕ → ℕ → Phase
 phaseOf tag c h w v =
@@ -73,11 +72,15 @@ rowIn t k =
     })
     noRow
 
+-- resting: unused words are 0
+abbrev pub noAccess : ℕ → ℕ → ℕ → ℕ → Bool
+noAccess c h w v = eqb c 0 and eqb h 0 and eqb w 0 and eqb v 0
+
 -- the five words of a phase mean one: no other number, unused words 0, "value 0 for a read"
 unfoldable pub isPhase : ℕ → ℕ → ℕ → ℕ → ℕ → Bool
 isPhase tag c h w v =
     pick (eqb tag 0)
-    (eqb c 0 and eqb h 0 and eqb w 0 and eqb v 0)
+    (noAccess c h w v)
     (ltb 1 tag and ltb tag 6 and (eqb (tag % 2) 1 or eqb v 0))
 
 -- the twelve words from k on mean a row
@@ -106,13 +109,12 @@ rowRead t i = rowIn t (12 * i)
 abbrev pub rowsRead : List ℕ → List Row
 rowsRead t = listFrom (rowRead t) 0 8
 
--- "all swaps"
-abbrev pub swapsOf : Row → ℕ
-swapsOf r = r .swaps
-
--- row i becomes r; its phase, its swaps alone; a row that does not lie whole in t is not stored
+-- row i becomes r; all but its phase, its phase, its swaps alone; a row that does not lie whole in t is not stored
 unfoldable pub putRow : List ℕ → ℕ → Row → List ℕ
 putRow t i r = pick (whole t (12 * i)) (laid t (12 * i) (rowWords r)) t
+
+unfoldable pub putFront : List ℕ → ℕ → Row → List ℕ
+putFront t i r = pick (whole t (12 * i)) (laid t (12 * i) (frontWords r)) t
 
 unfoldable pub putPhase : List ℕ → ℕ → Phase → List ℕ
 putPhase t i p = pick (whole t (12 * i)) (laid t (12 * i + 7) (listed (phaseWords p))) t

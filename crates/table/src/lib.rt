@@ -3,15 +3,16 @@
 // Words of a row: 0 attached, 1 passed, 2 to 5 the holds, 6 swaps, 7 phase, 8 cell, 9 hold, 10 word, 11 value.
 ghost use mathlib.Core.Path.{_≡_};
 ghost use Prim.Native.Nat.{_*_};
-ghost use lib.Dec.{eqb};
-ghost use Rattle.model.specs.Choice.{_and_, _or_, any, total};
-ghost use Rattle.model.specs.Rows.{freshRow, allPassed};
+ghost use Rattle.model.specs.Choice.{any, total};
+ghost use Rattle.model.specs.Rows.{swapsOf, freshRow, allPassed};
 ghost use Rattle.model.specs.Refusals.{holdsCell};
-ghost use Rattle.table.specs.Words.{accessOf, phaseOf, noRow, rowIn, isPhase, isRow, rowAt, rowsRead, swapsOf};
-ghost use Rattle.table.specs.Words.{busyWords, phaseWords, putRow, putPhase, putSwaps, eachRow, clearMark, freshen};
+ghost use Rattle.table.specs.Words.{phaseOf, noRow, rowIn, noAccess, isPhase, isRow, rowAt, rowsRead};
+ghost use Rattle.table.specs.Words.{busyWords, phaseWords, putFront, putRow, putPhase, putSwaps, eachRow, clearMark, freshen};
 use model::Access;
 use model::Phase;
 use model::Row;
+use row::access_of;
+use row::is_among;
 
 // The rows of the table, "one for each client".
 const ROWS: u32 = 8;
@@ -26,28 +27,6 @@ pub struct PhaseWords {
     pub hold: u32,
     pub word: u32,
     pub value: u32,
-}
-
-fn both(a: bool, b: bool) -> bool
-    ensures { λ r. ⌜ r ≡ (a and b) ⌝ }
-{
-    if a { b } else { false }
-}
-
-fn either(a: bool, b: bool) -> bool
-    ensures { λ r. ⌜ r ≡ (a or b) ⌝ }
-{
-    if a { true } else { b }
-}
-
-fn access_of(write: bool, hold: u32, word: u32, value: u32) -> Access
-    ensures { λ r. ⌜ r ≡ accessOf write hold word value ⌝ }
-{
-    if write {
-        Access::Write { hold, word, value }
-    } else {
-        Access::Read { hold, word }
-    }
 }
 
 fn phase_of(tag: u32, cell: u32, hold: u32, word: u32, value: u32) -> Phase
@@ -95,17 +74,42 @@ pub fn row_at(t: &[u32], i: u32) -> Row
     }
 }
 
+// Resting: "unused words are 0".
+fn no_access(cell: u32, hold: u32, word: u32, value: u32) -> bool
+    ensures { λ r. ⌜ r ≡ noAccess cell hold word value ⌝ }
+{
+    if cell != 0 {
+        return false;
+    }
+    if hold != 0 {
+        return false;
+    }
+    if word != 0 {
+        return false;
+    }
+    value == 0
+}
+
 fn is_phase(tag: u32, cell: u32, hold: u32, word: u32, value: u32) -> bool
     ensures { λ r. ⌜ r ≡ isPhase tag cell hold word value ⌝ }
 {
     if tag == 0 {
-        return both(cell == 0, both(hold == 0, both(word == 0, value == 0)));
+        return no_access(cell, hold, word, value);
     }
-    both(1 < tag, both(tag < 6, either(tag % 2 == 1, value == 0)))
+    if tag == 1 {
+        return false;
+    }
+    if 5 < tag {
+        return false;
+    }
+    if tag % 2 == 1 {
+        return true;
+    }
+    value == 0
 }
 
 // Whether the words of row i mean a row.
-pub fn is_row(t: &[u32], i: u32) -> bool
+fn is_row(t: &[u32], i: u32) -> bool
     ensures { λ r. ⌜ r ≡ isRow (now (t .entry)) (12 * i) ⌝ }
 {
     let k = 12 * (i as usize);
@@ -165,14 +169,12 @@ fn phase_words(phase: Phase) -> PhaseWords
     }
 }
 
-// Row i becomes `row`.
-pub fn put_row_at(t: &mut [u32], i: u32, row: Row)
-    ensures { λ r. ⌜ now (t .exit) ≡ putRow (now (t .entry)) i row ⌝ }
+// Of row i all but the phase.
+fn put_front_at(t: &mut [u32], i: u32, row: Row)
+    ensures { λ r. ⌜ now (t .exit) ≡ putFront (now (t .entry)) i row ⌝ }
 {
     let k = 12 * (i as usize);
     let holds = row.holds;
-    let phase = row.phase;
-    let p = phase_words(phase);
     if k + 11 < t.len() {
         t[k] = row.attached as u32;
         t[k + 1] = row.passed as u32;
@@ -181,11 +183,6 @@ pub fn put_row_at(t: &mut [u32], i: u32, row: Row)
         t[k + 4] = holds[2];
         t[k + 5] = holds[3];
         t[k + 6] = row.swaps;
-        t[k + 7] = p.tag;
-        t[k + 8] = p.cell;
-        t[k + 9] = p.hold;
-        t[k + 10] = p.word;
-        t[k + 11] = p.value;
     }
 }
 
@@ -202,6 +199,15 @@ pub fn put_phase_at(t: &mut [u32], i: u32, phase: Phase)
         t[k + 10] = p.word;
         t[k + 11] = p.value;
     }
+}
+
+// Row i becomes `row`.
+pub fn put_row_at(t: &mut [u32], i: u32, row: Row)
+    ensures { λ r. ⌜ now (t .exit) ≡ putRow (now (t .entry)) i row ⌝ }
+{
+    let phase = row.phase;
+    put_front_at(t, i, row);
+    put_phase_at(t, i, phase);
 }
 
 // The swaps of row i alone: GO.
@@ -253,15 +259,6 @@ pub fn all_passed(t: &[u32]) -> bool
         i += 1;
     }
     true
-}
-
-fn is_among(holds: [u32; 4], cell: u32) -> bool
-    ensures { λ r. ⌜ r ≡ any (eqb cell) holds ⌝ }
-{
-    either(
-        cell == holds[0],
-        either(cell == holds[1], either(cell == holds[2], cell == holds[3])),
-    )
 }
 
 // 11 "RETIRE of a record some row holds"

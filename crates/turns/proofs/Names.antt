@@ -11,9 +11,10 @@ use borrow.Author.Tests.{lt-ltb, le-ltb}
 use Rattle.model.specs.declared.Answer.{Answer}
 use Rattle.model.specs.declared.Answer.the-variants.{Refused}
 use Rattle.model.specs.declared.Stepped.{Stepped}
+use Rattle.model.specs.Rows.{accessOf}
 use Rattle.model.specs.Steps.{Step, UNKNOWN, keeperCodes, clientCodes}
 use Rattle.model.proofs.Choice.{sides, same-or-not}
-use Rattle.clients.specs.Turns.{accessTurn, accessOf}
+use Rattle.clients.specs.Turns.{accessTurn}
 use Rattle.clients.proofs.Acts.{code-below, code-above}
 use Rattle.table.specs.Words.{rowRead, putPhase}
 use Rattle.turns.specs.Turns.{Left, left, clientLeft, LeftDoes, Lent, lent, Turn, turn, keeperTurn, passedAll, byMove, moveTurn}

@@ -131,12 +131,6 @@ fn keep_swap(table: &mut [u32], i: u32, o: Stepped) -> Answer
     answer
 }
 
-fn wide(x: u16) -> u32
-    ensures { λ r. ⌜ r ≡ x ⌝ }
-{
-    x as u32
-}
-
 // A client's step on row i; "Unused numbers are ignored."
 fn client(
     arena: &mut [u32],
@@ -157,7 +151,7 @@ fn client(
         10 => keep_row(table, i, clients::attach(row)),
         11 => keep_row(table, i, clients::detach(row)),
         12 => {
-            let entry = wide(keeper::entry_of(dir, a));
+            let entry = directory::entry_of(dir, a) as u32;
             keep_row(table, i, clients::open_hold(row, entry, a, b))
         }
         13 => keep_row(table, i, clients::drop_hold(row, a)),
@@ -237,7 +231,7 @@ fn keep(control: Control, arena: &mut [u32], table: &mut [u32], code: u32, a: u3
             }
         }
         2 => {
-            let cell = wide(keeper::entry_of(&control.dir, a));
+            let cell = directory::entry_of(&control.dir, a) as u32;
             let held = table::holds_cell(table, cell);
             let o = keeper::retire(control, arena, held, a);
             put_kept(arena, table, o)

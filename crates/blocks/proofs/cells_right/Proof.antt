@@ -21,6 +21,9 @@ loop-holds c = (seen-none _ _, omega arith)
 entry-of-requires : tie.Need-entry-of-requires Inv-loop μ-loop
 entry-of-requires c κs = search needs
 
+cast-lay-record : tie.Need-cast-lay-record Inv-loop μ-loop
+cast-lay-record c = search needs
+
 lay-record-requires : tie.Need-lay-record-requires Inv-loop μ-loop
 lay-record-requires c κs = c .before .before .before .loop .inv .0 .map .sixteen
 
@@ -85,6 +88,7 @@ cells-right-spec =
     μ-loop
     loop-holds
     entry-of-requires
+    cast-lay-record
     lay-record-requires
     returns
     add-m

@@ -2,7 +2,7 @@
 use borrow.Author.Needs.{needs}
 use mathlib.Core.Path.{refl}
 use Rattle.clients.proofs.Turns.{refused-by, done-by}
-use Rattle.clients.proofs.Holds.{hold-of-access, word-of-access}
+use Rattle.row.proofs.Holds.{hold-of-access, word-of-access}
 use Rattle.clients.proofs.start_access.Statement.{statement}
 use Rattle.clients.proofs.start_access.Tie as tie
 

@@ -6,7 +6,8 @@ use Prim.Native.Nat.{_≤_, _-_, _+_, _*_}
 use native.Mathlib.Nat.{add-zero}
 use native.Mathlib.Omega.{arith}
 use Rattle.model.specs.Choice.{total}
-use Rattle.table.specs.Words.{swapsOf, rowRead, listFrom, rowsRead}
+use Rattle.model.specs.Rows.{swapsOf}
+use Rattle.table.specs.Words.{rowRead, listFrom, rowsRead}
 use Rattle.table.proofs.Loops.{list-next}
 use Rattle.table.proofs.all_swaps.Statement.{statement}
 use Rattle.table.proofs.all_swaps.Tie as tie

@@ -1,204 +1,25 @@
--- `table::put_row_at` meets its contract: the test holds for all twelve places, and straight stores are words laid. Assumes nothing.
+-- `table::put_row_at` meets its contract: a row is its front and its phase. Assumes nothing.
 use borrow.Author.Needs.{needs}
-use borrow.Author.Tests.{lt-ltb, le-ltb}
-use native.Mathlib.Omega.{arith}
-use lib.ListN.{length-set}
-use Rattle.table.specs.Words.{putRow}
-use Rattle.table.proofs.Stores.{stored-first}
+use mathlib.Core.Path.{_∙_}
+use denote.Ref.{now}
+use Rattle.table.proofs.Stores.{row-in-parts}
 use Rattle.table.proofs.put_row_at.Statement.{statement}
 use Rattle.table.proofs.put_row_at.Tie as tie
 
-mul-k : tie.Need-mul-k
-mul-k c = search needs
+put-front-at-requires : tie.Need-put-front-at-requires
+put-front-at-requires c κs = search needs
 
-phase-words-requires : tie.Need-phase-words-requires
-phase-words-requires c κs = search needs
-
-add-if1 : tie.Need-add-if1
-add-if1 c = search needs
-
-cast-t : tie.Need-cast-t
-cast-t c = search needs
-
-mul-t : tie.Need-mul-t
-mul-t c = search needs
-
-slice-write-t : tie.Need-slice-write-t
-slice-write-t c = search needs
-
-cast-t-2 : tie.Need-cast-t-2
-cast-t-2 c = search needs
-
-add-t : tie.Need-add-t
-add-t c = search needs
-
-mul-t-2 : tie.Need-mul-t-2
-mul-t-2 c = search needs
-
-slice-write-t-2 : tie.Need-slice-write-t-2
-slice-write-t-2 c = simp length-set (omega arith)
-
-array-read-t : tie.Need-array-read-t
-array-read-t c = search needs
-
-add-t-2 : tie.Need-add-t-2
-add-t-2 c = search needs
-
-mul-t-3 : tie.Need-mul-t-3
-mul-t-3 c = search needs
-
-slice-write-t-3 : tie.Need-slice-write-t-3
-slice-write-t-3 c = simp length-set (omega arith)
-
-array-read-t-2 : tie.Need-array-read-t-2
-array-read-t-2 c = search needs
-
-add-t-3 : tie.Need-add-t-3
-add-t-3 c = search needs
-
-mul-t-4 : tie.Need-mul-t-4
-mul-t-4 c = search needs
-
-slice-write-t-4 : tie.Need-slice-write-t-4
-slice-write-t-4 c = simp length-set (omega arith)
-
-array-read-t-3 : tie.Need-array-read-t-3
-array-read-t-3 c = search needs
-
-add-t-4 : tie.Need-add-t-4
-add-t-4 c = search needs
-
-mul-t-5 : tie.Need-mul-t-5
-mul-t-5 c = search needs
-
-slice-write-t-5 : tie.Need-slice-write-t-5
-slice-write-t-5 c = simp length-set (omega arith)
-
-array-read-t-4 : tie.Need-array-read-t-4
-array-read-t-4 c = search needs
-
-add-t-5 : tie.Need-add-t-5
-add-t-5 c = search needs
-
-mul-t-6 : tie.Need-mul-t-6
-mul-t-6 c = search needs
-
-slice-write-t-6 : tie.Need-slice-write-t-6
-slice-write-t-6 c = simp length-set (omega arith)
-
-add-t-6 : tie.Need-add-t-6
-add-t-6 c = search needs
-
-mul-t-7 : tie.Need-mul-t-7
-mul-t-7 c = search needs
-
-slice-write-t-7 : tie.Need-slice-write-t-7
-slice-write-t-7 c = simp length-set (omega arith)
-
-add-t-7 : tie.Need-add-t-7
-add-t-7 c = search needs
-
-mul-t-8 : tie.Need-mul-t-8
-mul-t-8 c = search needs
-
-slice-write-t-8 : tie.Need-slice-write-t-8
-slice-write-t-8 c = simp length-set (omega arith)
-
-add-t-8 : tie.Need-add-t-8
-add-t-8 c = search needs
-
-mul-t-9 : tie.Need-mul-t-9
-mul-t-9 c = search needs
-
-slice-write-t-9 : tie.Need-slice-write-t-9
-slice-write-t-9 c = simp length-set (omega arith)
-
-add-t-9 : tie.Need-add-t-9
-add-t-9 c = search needs
-
-mul-t-10 : tie.Need-mul-t-10
-mul-t-10 c = search needs
-
-slice-write-t-10 : tie.Need-slice-write-t-10
-slice-write-t-10 c = simp length-set (omega arith)
-
-add-t-10 : tie.Need-add-t-10
-add-t-10 c = search needs
-
-mul-t-11 : tie.Need-mul-t-11
-mul-t-11 c = search needs
-
-slice-write-t-11 : tie.Need-slice-write-t-11
-slice-write-t-11 c = simp length-set (omega arith)
-
-add-t-11 : tie.Need-add-t-11
-add-t-11 c = search needs
-
-mul-t-12 : tie.Need-mul-t-12
-mul-t-12 c = search needs
-
-slice-write-t-12 : tie.Need-slice-write-t-12
-slice-write-t-12 c = simp length-set (omega arith)
+put-phase-at-requires : tie.Need-put-phase-at-requires
+put-phase-at-requires c κs = search needs
 
 same-length : tie.Need-same-length
-same-length c = simp length-set
+same-length c = search needs
 
 returns : tie.Need-returns
-unfolding putRow
-returns c = rw (lt-ltb _ _ (c .before .before .if1 .taken), ← c .before .before .before .phase-words .ensures) (stored-first _ _ _ _)
-
-returns-2 : tie.Need-returns-2
-unfolding putRow
-returns-2 c = simp (le-ltb _ _ (c .if1 .left))
+returns c =
+    let front = c .before .before .before .before .before .before in
+    let a = front .before .before .before .args in
+    rw (front .put-front-at .ensures) at (c .before .before .put-phase-at .ensures) ∙ row-in-parts (now (a .t)) (a .row) (a .i)
 
 pub put-row-at-spec : {M : Type 1} → statement M
-put-row-at-spec =
-    tie.close
-    (tie.spec
-    mul-k
-    phase-words-requires
-    add-if1
-    cast-t
-    mul-t
-    slice-write-t
-    cast-t-2
-    add-t
-    mul-t-2
-    slice-write-t-2
-    array-read-t
-    add-t-2
-    mul-t-3
-    slice-write-t-3
-    array-read-t-2
-    add-t-3
-    mul-t-4
-    slice-write-t-4
-    array-read-t-3
-    add-t-4
-    mul-t-5
-    slice-write-t-5
-    array-read-t-4
-    add-t-5
-    mul-t-6
-    slice-write-t-6
-    add-t-6
-    mul-t-7
-    slice-write-t-7
-    add-t-7
-    mul-t-8
-    slice-write-t-8
-    add-t-8
-    mul-t-9
-    slice-write-t-9
-    add-t-9
-    mul-t-10
-    slice-write-t-10
-    add-t-10
-    mul-t-11
-    slice-write-t-11
-    add-t-11
-    mul-t-12
-    slice-write-t-12
-    same-length
-    returns
-    returns-2)
+put-row-at-spec = tie.close (tie.spec put-front-at-requires put-phase-at-requires same-length returns)

@@ -1,7 +1,7 @@
 -- `table::swaps_at` meets its contract: a field of the row. Assumes nothing.
 use borrow.Author.Needs.{needs}
 use mathlib.Core.Path.{ap}
-use Rattle.table.specs.Words.{swapsOf}
+use Rattle.model.specs.Rows.{swapsOf}
 use Rattle.table.proofs.swaps_at.Statement.{statement}
 use Rattle.table.proofs.swaps_at.Tie as tie
 

@@ -28,8 +28,8 @@ keep-row-requires-2 c κs = search needs
 entry-of-requires : tie.Need-entry-of-requires
 entry-of-requires c κs = search needs
 
-wide-requires : tie.Need-wide-requires
-wide-requires c κs = search needs
+cast-entry : tie.Need-cast-entry
+cast-entry c = search needs
 
 open-hold-requires : tie.Need-open-hold-requires
 open-hold-requires c κs = search needs
@@ -90,9 +90,9 @@ same-length-3 c = search needs
 returns-3 : tie.Need-returns-3
 unfolding clientLeft
 returns-3 c = let b = c .before .before .before in
-    let m = b .before .before .before .before in
     let w = b .before .before in
-    let o = rw (m .before .row-at .ensures, w .wide .ensures, w .before .entry-of .ensures) at (b .open-hold .ensures) in
+    let m = w .before in
+    let o = rw (m .before .row-at .ensures, w .entry-of .ensures) at (b .open-hold .ensures) in
     let e = c .before .before .keep-row3 .ensures in
     rw (m .match .keys3) (record { arena = refl; table = rw o at (e .0); answer = rw o at (e .1) })
 
@@ -184,7 +184,7 @@ client-spec =
     detach-requires
     keep-row-requires-2
     entry-of-requires
-    wide-requires
+    cast-entry
     open-hold-requires
     keep-row-requires-3
     drop-hold-requires

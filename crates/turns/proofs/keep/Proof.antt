@@ -11,8 +11,8 @@ admit-requires c κs = search needs
 entry-of-requires : tie.Need-entry-of-requires
 entry-of-requires c κs = search needs
 
-wide-requires : tie.Need-wide-requires
-wide-requires c κs = search needs
+cast-cell : tie.Need-cast-cell
+cast-cell c = search needs
 
 holds-cell-requires : tie.Need-holds-cell-requires
 holds-cell-requires c κs = search needs
@@ -51,8 +51,8 @@ same-length-3 c = search needs
 returns-2 : tie.Need-returns-2
 returns-2 c = let b = c .before .before .before .before .before .before .before in
     let e = b .before .before .before .before in
-    let o = rw (b .before .before .holds-cell .ensures, e .wide .ensures, e .before .entry-of .ensures) at (b .retire .ensures) in
-    rw (e .before .before .before .before .match .keys2) (rw o at (c .before .before .before .before .put-kept .ensures))
+    let o = rw (b .before .before .holds-cell .ensures, e .entry-of .ensures) at (b .retire .ensures) in
+    rw (e .before .before .before .match .keys2) (rw o at (c .before .before .before .before .put-kept .ensures))
 
 same-length-4 : tie.Need-same-length-4
 same-length-4 c = search needs
@@ -87,7 +87,7 @@ keep-spec =
     (tie.spec
     admit-requires
     entry-of-requires
-    wide-requires
+    cast-cell
     holds-cell-requires
     retire-requires
     put-kept-requires
