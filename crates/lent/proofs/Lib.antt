@@ -1,4 +1,2 @@
 pub mod Shared
-pub mod Words
-pub mod Calls
 pub mod Lifts

@@ -1,4 +1,4 @@
--- What a call over lent rows does: its answer, the control record, each word of the arena and each row of the table, as the model's call
+-- What a call on rows does: its answer, the control record, each word of the arena and each row of the table, as the model's call
 -- has them.
 use mathlib.Core.Path.{_≡_}
 use mathlib.Core.List.{List, []}
@@ -15,7 +15,7 @@ use Rattle.model.specs.Calls.{Ran}
 use Rattle.rows.specs.declared.Eight.{Eight}
 use Rattle.rows.specs.Eight.{rowsIn}
 use Rattle.archive.specs.declared.Reply.{Reply}
-use Rattle.lent.specs.declared.Done.{Done}
+use Rattle.byrow.specs.declared.Done.{Done}
 
 -- the reply, and arena and table after the call: an answer x, and the state s
 pub record Leaves (r : Reply) (a : List ℕ) (t : List Row) (x : Answer) (s : State) : Type 0 where

@@ -1,14 +1,14 @@
--- `lent::fresh_rows` meets its contract: the words of eight rows are worked on and read back; a table that has not eight is refused.
+-- `byrow::fresh_rows` meets its contract: the words of eight rows are worked on and read back; a table that has not eight is refused.
 -- Assumes nothing.
 use mathlib.Core.Path.{_≡_}
 use mathlib.Core.Bool.{false}
 use lib.Dec.{eqb}
 use borrow.Author.Needs.{needs}
 use borrow.Author.Tests.{ne-eqb}
-use Rattle.lent.proofs.Calls.{fresh-is}
-use Rattle.lent.proofs.Lifts.{rows-refused, rows-done}
-use Rattle.lent.proofs.fresh_rows.Statement.{statement}
-use Rattle.lent.proofs.fresh_rows.Tie as tie
+use Rattle.byrow.proofs.Calls.{fresh-is}
+use Rattle.byrow.proofs.ReadBack.{rows-refused, rows-done}
+use Rattle.byrow.proofs.fresh_rows.Statement.{statement}
+use Rattle.byrow.proofs.fresh_rows.Tie as tie
 
 refused-requires : tie.Need-refused-requires
 refused-requires c κs = search needs

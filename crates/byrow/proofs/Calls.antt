@@ -1,5 +1,5 @@
 -- Each call, as an outcome of the state: a table that has not eight rows is refused by 1, and eight rows of four holds stay eight rows of
--- four holds. That is all that the calls over lent rows ask of it.
+-- four holds. That is all that the calls on rows ask of it.
 -- Assumes nothing.
 use mathlib.Core.Path.{_≡_, refl, ap}
 use mathlib.Core.Bool.{true, false, not}

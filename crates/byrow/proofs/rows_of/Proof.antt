@@ -1,8 +1,8 @@
--- `lent::rows_of` meets its contract: each row is read. Assumes nothing.
+-- `byrow::rows_of` meets its contract: each row is read. Assumes nothing.
 use borrow.Author.Needs.{needs}
-use Rattle.lent.proofs.Words.{all-read}
-use Rattle.lent.proofs.rows_of.Statement.{statement}
-use Rattle.lent.proofs.rows_of.Tie as tie
+use Rattle.byrow.proofs.Words.{all-read}
+use Rattle.byrow.proofs.rows_of.Statement.{statement}
+use Rattle.byrow.proofs.rows_of.Tie as tie
 
 get-requires : tie.Need-get-requires
 get-requires c κs = search needs

@@ -1,4 +1,4 @@
--- `lent::step_rows` meets its contract: the words of eight rows are worked on and read back; a table that has not eight is refused.
+-- `byrow::step_rows` meets its contract: the words of eight rows are worked on and read back; a table that has not eight is refused.
 -- Assumes nothing.
 use mathlib.Core.Path.{_≡_}
 use mathlib.Core.Bool.{false}
@@ -6,10 +6,10 @@ use lib.Dec.{eqb}
 use borrow.Author.Needs.{needs}
 use borrow.Author.Tests.{ne-eqb}
 use Rattle.model.specs.Steps.{step}
-use Rattle.lent.proofs.Calls.{step-is}
-use Rattle.lent.proofs.Lifts.{rows-refused, rows-done}
-use Rattle.lent.proofs.step_rows.Statement.{statement}
-use Rattle.lent.proofs.step_rows.Tie as tie
+use Rattle.byrow.proofs.Calls.{step-is}
+use Rattle.byrow.proofs.ReadBack.{rows-refused, rows-done}
+use Rattle.byrow.proofs.step_rows.Statement.{statement}
+use Rattle.byrow.proofs.step_rows.Tie as tie
 
 refused-requires : tie.Need-refused-requires
 refused-requires c κs = search needs

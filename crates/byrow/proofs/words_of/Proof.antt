@@ -1,8 +1,8 @@
--- `lent::words_of` meets its contract: row after row is stored into the words of eight rows of zeros. Assumes nothing.
+-- `byrow::words_of` meets its contract: row after row is stored into the words of eight rows of zeros. Assumes nothing.
 use borrow.Author.Needs.{needs}
-use Rattle.lent.proofs.Words.{zeros, row-stored, four-eight}
-use Rattle.lent.proofs.words_of.Statement.{statement}
-use Rattle.lent.proofs.words_of.Tie as tie
+use Rattle.byrow.proofs.Words.{zeros, row-stored, four-eight}
+use Rattle.byrow.proofs.words_of.Statement.{statement}
+use Rattle.byrow.proofs.words_of.Tie as tie
 
 put-requires : tie.Need-put-requires
 put-requires c κs = search needs

@@ -1,13 +1,13 @@
--- `lent::run_rows` meets its contract: the words of eight rows are worked on and read back; a table that has not eight is refused.
+-- `byrow::run_rows` meets its contract: the words of eight rows are worked on and read back; a table that has not eight is refused.
 -- Assumes nothing.
 use mathlib.Core.Path.{_≡_}
 use mathlib.Core.Bool.{false}
 use lib.Dec.{eqb}
 use borrow.Author.Needs.{needs}
 use borrow.Author.Tests.{ne-eqb}
-use Rattle.lent.proofs.Lifts.{run-refused, run-done}
-use Rattle.lent.proofs.run_rows.Statement.{statement}
-use Rattle.lent.proofs.run_rows.Tie as tie
+use Rattle.byrow.proofs.ReadBack.{run-refused, run-done}
+use Rattle.byrow.proofs.run_rows.Statement.{statement}
+use Rattle.byrow.proofs.run_rows.Tie as tie
 
 refused-requires : tie.Need-refused-requires
 refused-requires c κs = search needs
