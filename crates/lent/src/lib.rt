@@ -1,12 +1,24 @@
 // The library's calls over a lent slice of eight row structs: "The client table is lent as eight rows, one for each client".
 // Thin: the rows are taken out by value, `byrow` works on them, and they are put back.
+ghost use mathlib.Core.Path.{_≡_};
 ghost use Rattle.model.specs.State.{state};
 ghost use Rattle.model.specs.Steps.{step};
 ghost use Rattle.model.specs.Calls.{freshCall, stepCall, runCall, fillCall, auditCall};
+ghost use Rattle.rows.specs.Eight.{putBack};
 ghost use Rattle.byrow.specs.Does.{Does, Runs, Looks};
 use archive::Reply;
+use byrow::Done;
 use model::Control;
 use model::Row;
+
+// The rows of a call that is done go back into the table; its reply is left.
+fn put_back(table: &mut [Row], done: Done) -> Reply
+    ensures { λ r. ⌜ (r ≡ done .reply) × (now (table .exit) ≡ putBack (now (table .entry)) (done .rows)) ⌝ }
+{
+    let rows = done.rows;
+    rows::put_rows(table, rows);
+    done.reply
+}
 
 // "Fresh zeroes the arena, empties the directory, map and counts, and leaves eight unattached rows".
 pub fn fresh(control: Control, arena: &mut [u32], table: &mut [Row]) -> Reply
@@ -14,10 +26,8 @@ pub fn fresh(control: Control, arena: &mut [u32], table: &mut [Row]) -> Reply
         (freshCall (state control (now (arena .entry)) (now (table .entry)))) ⌝ }
 {
     let rows = rows::take_rows(&*table);
-    let d = byrow::fresh_rows(control, arena, table.len(), rows);
-    let next = d.rows;
-    rows::put_rows(table, next);
-    d.reply
+    let done = byrow::fresh_rows(control, arena, table.len(), rows);
+    put_back(table, done)
 }
 
 // "A step is five numbers: who, code, a, b, v."
@@ -35,10 +45,8 @@ pub fn step(
         (stepCall (state control (now (arena .entry)) (now (table .entry))) (step who code a b v)) ⌝ }
 {
     let rows = rows::take_rows(&*table);
-    let d = byrow::step_rows(control, arena, table.len(), rows, who, code, a, b, v);
-    let next = d.rows;
-    rows::put_rows(table, next);
-    d.reply
+    let done = byrow::step_rows(control, arena, table.len(), rows, who, code, a, b, v);
+    put_back(table, done)
 }
 
 // "A run of up to 4,096 steps (five words each, with a two-word answer slot for each ..) checks soundness once and equals the steps
@@ -54,10 +62,8 @@ pub fn run(
         (runCall (state control (now (arena .entry)) (now (table .entry))) (now (steps .entry)) (now (answers .entry))) ⌝ }
 {
     let rows = rows::take_rows(&*table);
-    let d = byrow::run_rows(control, arena, table.len(), rows, steps, answers);
-    let next = d.rows;
-    rows::put_rows(table, next);
-    d.reply
+    let done = byrow::run_rows(control, arena, table.len(), rows, steps, answers);
+    put_back(table, done)
 }
 
 // "Fill is the number of used cells".

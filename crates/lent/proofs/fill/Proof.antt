@@ -18,8 +18,8 @@ use contract.Monad.{Fun, fact}
 use contract.Running.{givenOf, tables, tablesOf}
 use types.Kit.{Given, ‵, raw, _⊛_, some, later, ⋆, _$_, _∵_, !, qed, by, move, drop, use1, use2, split, join, pick}
 use types.Kit.{fsplit, fjoin, suffices, frame, await, done}
-use types.Run.{look, init, forget, stop, fld, from, load, of-opd, and-then, no-more, assigns, land, returns, enter}
-use types.Run.{alloc1, alloc0, params1, pass1, pass0, free1, free0}
+use types.Run.{look, init, stop, fld, from, load, of-opd, and-then, no-more, assigns, land, returns, enter}
+use types.Run.{alloc1, alloc0, params1, pass1, pass0, free0}
 use types.Part.{whole, sub, look-in}
 use sound.WpLaws.{FmC, fmOf, WpFn-mono}
 use denote.RattleType.{owns}
@@ -59,6 +59,7 @@ use Rattle.archive.proofs.Reply as Rep
 use Rattle.archive.proofs.Reply.Laws as Rep′
 use Rattle.byrow.specs.Does.{Looks, tableOf}
 use Rattle.byrow.proofs.Calls.{fill-is}
+use Rattle.lent.proofs.Locals.{gone}
 use Rattle.lent.proofs.Lifts.{look-lifted}
 use Rattle.byrow.proofs.fill_rows as fill-rows
 use Rattle.byrow.proofs.fill_rows.Symbol as fill-rows-def
@@ -226,10 +227,8 @@ module _ {M : Type 1} (𝓤 : URA M) (H : Heap 𝓤) (A : Atoms 𝓤) (W : Given
         land ! (from ! (stop !)) (init ! 15 refl (LL.lawful Rep.the-type Rep′.the-laws 𝓤 H A W .typed r _ is₂ .0)) $ drop ! $
         split ! $ move ! (1 ∷ []) $ drop ! $
         -- [arena's token; table's token; what arena owns; what table owns; _5; …]
-        returns ! (look ! 14 refl) $ forget ! 4 refl $ forget ! 6 refl $ forget ! 8 refl $ forget ! 10 refl $ forget ! 12 refl $
-        forget ! 14 refl $
-        move ! (14 ∷ 15 ∷ []) $ free1 ! $ move ! (12 ∷ 13 ∷ []) $ free1 ! $ move ! (10 ∷ 11 ∷ []) $ free1 ! $ move ! (8 ∷ 9 ∷ []) $
-        free1 ! $ move ! (6 ∷ 7 ∷ []) $ free1 ! $ move ! (4 ∷ 5 ∷ []) $ free1 ! $ free0 ! $
+        returns ! (look ! 14 refl) $ gone ! 14 refl refl $ gone ! 12 refl refl $ gone ! 10 refl refl $ gone ! 8 refl refl $
+        gone ! 6 refl refl $ gone ! 4 refl refl $ free0 ! $
         by ! (exits r w is₂ (look-lifted c ws ys e e₁ fill-is e₂))))))))))))))))
 
 module _ {M : Type 1} (𝓤 : URA M) (H : Heap 𝓤) (A : Atoms 𝓤) (W : Given 𝓤 H A) (mem : Memory → SProp 𝓤) (run : Routine → Fun 𝓤) where
