@@ -17,6 +17,7 @@ use model::Move;
 // One fixed size in bytes: control record 668, arena 4 × 8,192, table 8 × 48.
 const BUFFER: usize = 33820;
 
+// "the move in hand (stage, meter, old cell called from, target cell, words copied ..)", from its 16 bytes.
 fn move_in(b: &[u8]) -> Move
     requires { ⌜ length (now b) ≡ 33820 ⌝ }
     ensures { λ r. ⌜ r ≡ moveIn (now (b .entry)) ⌝ }
@@ -30,6 +31,7 @@ fn move_in(b: &[u8]) -> Move
     }
 }
 
+// The control record: directory, map, move and counts, one behind the other.
 fn control_in(b: &[u8]) -> Control
     requires { ⌜ length (now b) ≡ 33820 ⌝ }
     ensures { λ r. ⌜ r ≡ controlIn (now (b .entry)) ⌝ }
@@ -50,6 +52,7 @@ fn control_in(b: &[u8]) -> Control
     }
 }
 
+// The move in hand, into its 16 bytes.
 fn move_out(b: &mut [u8], mv: Move)
     requires { ⌜ length (now b) ≡ 33820 ⌝ }
     ensures { λ r. ⌜ now (b .exit) ≡ laid (now (b .entry)) 640 (joined (moveParts mv)) ⌝ }
@@ -61,6 +64,7 @@ fn move_out(b: &mut [u8], mv: Move)
     wire::put4(b, 652, mv.copied);
 }
 
+// "the counts begun, committed, aborted (32 bits)", into their 12 bytes.
 fn counts_out(b: &mut [u8], control: Control)
     requires { ⌜ length (now b) ≡ 33820 ⌝ }
     ensures { λ r. ⌜ now (b .exit) ≡ laid (now (b .entry)) 656 (joined (countParts control)) ⌝ }
@@ -70,6 +74,7 @@ fn counts_out(b: &mut [u8], control: Control)
     wire::put4(b, 664, control.aborted);
 }
 
+// The control record, into its 668 bytes.
 fn control_out(b: &mut [u8], control: Control)
     requires { ⌜ length (now b) ≡ 33820 ⌝ }
     ensures { λ r. ⌜ now (b .exit) ≡ laid (now (b .entry)) 0 (joined (controlParts control)) ⌝ }
@@ -103,7 +108,7 @@ fn state_in(b: &[u8], arena: &mut [u32], table: &mut [u32]) -> Control
     control_in(b)
 }
 
-// Answer and value in one number.
+// Answer and value in one number: answer × 2^32 + value.
 fn coded(answer: Answer) -> u64
     ensures { λ r. ⌜ r ≡ coded answer ⌝ }
 {
@@ -111,6 +116,7 @@ fn coded(answer: Answer) -> u64
     (told.number as u64) * 4294967296 + (told.value as u64)
 }
 
+// Numbers of refusal are below 20.
 fn is_refused(answer: Answer) -> bool
     ensures { λ r. ⌜ r ≡ isRefused answer ⌝ }
 {
@@ -131,6 +137,7 @@ fn finish(b: &mut [u8], control: Control, arena: &[u32], table: &[u32], answer: 
     coded(answer)
 }
 
+// "Fresh zeroes the arena, empties the directory, map and counts, and leaves eight unattached rows"; "A wrong size gets 1."
 #[no_mangle]
 pub extern "C" fn tangvrak_fresh(buffer: &mut [u8]) -> u64
     ensures { λ r. ⌜ CallGives r (now (buffer .exit)) (freshBytes (now (buffer .entry))) ⌝ }
@@ -147,6 +154,7 @@ pub extern "C" fn tangvrak_fresh(buffer: &mut [u8]) -> u64
     finish(buffer, control, &arena, &table, answer)
 }
 
+// One step: "A step is five numbers: who, code, a, b, v."
 #[no_mangle]
 pub extern "C" fn tangvrak_step(
     buffer: &mut [u8],
@@ -170,6 +178,7 @@ pub extern "C" fn tangvrak_step(
     finish(buffer, control, &arena, &table, answer)
 }
 
+// "Fill is the number of used cells": 30 with the figure.
 #[no_mangle]
 pub extern "C" fn tangvrak_fill(buffer: &[u8]) -> u64
     ensures { λ r. ⌜ r ≡ fillResult (now (buffer .entry)) ⌝ }
@@ -185,6 +194,7 @@ pub extern "C" fn tangvrak_fill(buffer: &[u8]) -> u64
     coded(answer)
 }
 
+// "Audit's value, beside answer 30, is 0 or the number of the first broken rule."
 #[no_mangle]
 pub extern "C" fn tangvrak_audit(buffer: &[u8]) -> u64
     ensures { λ r. ⌜ r ≡ auditResult (now (buffer .entry)) ⌝ }
@@ -250,6 +260,8 @@ fn run_words(
     finish(buffer, control, &arena, &table, answer)
 }
 
+// "A run of up to 4,096 steps (five words each, with a two-word answer slot for each; any other sizes are refused by 1) checks
+// soundness once and equals the steps one by one."
 #[no_mangle]
 pub extern "C" fn tangvrak_run(buffer: &mut [u8], steps: &[u8], slots: &mut [u8]) -> u64
     ensures { λ r. ⌜ RunGives r (now (buffer .exit)) (now (slots .exit))

@@ -1,4 +1,3 @@
 pub mod Shared
-pub mod Words
-pub mod Calls
+pub mod Locals
 pub mod Lifts

@@ -2,106 +2,28 @@
 -- back into, and a table of another length is refused.
 -- Assumes nothing.
 use mathlib.Core.Path.{_≡_, refl, sym, ap, _∙_}
-use mathlib.Core.Bool.{Bool, true, false, not}
+use mathlib.Core.Bool.{Bool, true, false}
 use mathlib.Core.List.{List, []}
 use Prim.Native.Nat.{ℕ}
 use lib.Dec.{eqb}
 use lib.ListN.{length}
-use borrow.Author.Tests.{eq-eqb, eqb-true}
+use borrow.Author.Tests.{eqb-true}
 use Rattle.model.specs.declared.Row.{Row}
 use Rattle.model.specs.declared.Control.{Control}
-use Rattle.model.specs.Choice.{_and_}
 use Rattle.model.specs.State.{State, state}
 use Rattle.model.specs.Answers.{Outcome}
 use Rattle.model.specs.Steps.{refused}
 use Rattle.model.specs.Calls.{wrongSize, runCall, Ran}
-use Rattle.table.specs.Words.{tableWords, rowsRead}
-use Rattle.table.proofs.FourHolds.{FourHolds}
-use Rattle.table.proofs.Rows.{rows-of-words}
 use Rattle.rows.specs.declared.Eight.{Eight}
 use Rattle.rows.specs.Eight.{rowsIn, taken, putBack}
 use Rattle.rows.proofs.Lists.{eight-rows, taken-eight, put-eight, put-other}
 use Rattle.archive.specs.declared.Reply.{Reply}
-use Rattle.archive.specs.Does.{meant, CallDoes, RunDoes, LookDoes}
-use Rattle.lent.specs.Does.{Does, Runs, Looks, tableOf, turnedDown}
-use Rattle.lent.proofs.Words.{read-after}
-use Rattle.lent.proofs.Calls.{Tests, Keeps, Call, run-wrong, run-is}
-
--- the table of the rows, by its length
-pub these-rows : (n : ℕ) (e : Eight) → n ≡ 8 → tableOf n e ≡ rowsIn e
-unfolding tableOf
-these-rows n e h = rw (eq-eqb n 8 h) refl
-
-pub no-rows : (n : ℕ) (e : Eight) → eqb n 8 ≡ false → tableOf n e ≡ []
-unfolding tableOf
-no-rows n e h = rw h refl
-
-pub wrong-length : (c : Control) (a : List ℕ) (t : List Row) → eqb (length t) 8 ≡ false → wrongSize (state c a t) ≡ true
-unfolding wrongSize
-wrong-length c a t h = go (eqb (length a) 8192)
-  where
-    go : (b : Bool) → not (b and eqb (length t) 8) ≡ true
-    go true = rw h refl
-    go false = refl
+use Rattle.byrow.specs.Does.{Does, Runs, Looks, tableOf}
+use Rattle.byrow.proofs.Calls.{Tests, Call, run-wrong, run-is}
+use Rattle.byrow.proofs.ReadBack.{these-rows, no-rows, wrong-length, refused-so}
 
 taken-back : (t : List Row) (e : Eight) → e ≡ taken t → length t ≡ 8 → tableOf (length t) e ≡ t
 taken-back t e p h = these-rows (length t) e h ∙ ap rowsIn (p ∙ sym (taken-eight t h)) ∙ eight-rows t h
-
--- the calls on the rows of a table that has not eight
-module _ {g : State → Outcome} (G : Tests g) (c : Control) (a : List ℕ) (e : Eight) (n : ℕ) (other : eqb n 8 ≡ false) where
-  refused-so : g (state c a (tableOf n e)) ≡ refused (state c a []) 1
-  refused-so = rw (no-rows n e other) (G .by-one (state c a []) (wrong-length c a [] refl))
-
-  pub rows-refused : Does (turnedDown c e .reply) a (tableOf n e) (g (state c a (tableOf n e)))
-  rows-refused = rw (refused-so, no-rows n e other) (record { answer = refl; control = refl; arena = refl; table = refl })
-
-  pub look-refused : Looks (turnedDown c e .reply) (g (state c a (tableOf n e)))
-  look-refused = rw refused-so (record { answer = refl; control = refl })
-
--- the calls on eight rows: their words are worked on, and read back
-module _ (c : Control) (a : List ℕ) (e : Eight) (n : ℕ) (eight : n ≡ 8) (four : FourHolds (rowsIn e)) where
-  meant-rows : meant c a (tableWords (rowsIn e)) ≡ state c a (tableOf n e)
-  meant-rows = ap (state c a) (rows-of-words (rowsIn e) refl four ∙ sym (these-rows n e eight))
-
-  pub rows-done : {g : State → Outcome} → Call g → (f : Eight) {r : Reply} {a' t : List ℕ}
-      → CallDoes (tableWords (rowsIn e)) r a' t (g (meant c a (tableWords (rowsIn e)))) → rowsIn f ≡ rowsRead t
-      → Does r a' (tableOf n f) (g (state c a (tableOf n e)))
-  rows-done {g} G f d p =
-      let s : State = state c a (tableOf n e) in
-      let k : Keeps s (g s) = G .keeps s (record { eight = ap length (these-rows n e eight); four = rw (these-rows n e eight) four }) in
-      let d' = rw meant-rows at d in
-      record {
-        answer = d' .answer;
-        control = d' .control;
-        arena = d' .arena;
-        table =
-            these-rows n f eight ∙ p
-            ∙ read-after (rowsIn e) refl four (g s .answer) (g s .next .table) (k .rows .eight) (k .rows .four)
-            (λ h. k .same h ∙ these-rows n e eight) (d' .table);
-      }
-
-  pub look-done : (g : State → Outcome) {r : Reply}
-      → LookDoes r (g (meant c a (tableWords (rowsIn e)))) → Looks r (g (state c a (tableOf n e)))
-  look-done g d = let d' = rw meant-rows at d in record { answer = d' .answer; control = d' .control }
-
-  pub run-done : (ws slots : List ℕ) (f : Eight) {r : Reply} {a' t l : List ℕ}
-      → RunDoes (tableWords (rowsIn e)) r a' t l (runCall (meant c a (tableWords (rowsIn e))) ws slots) → rowsIn f ≡ rowsRead t
-      → Runs r a' (tableOf n f) l (runCall (state c a (tableOf n e)) ws slots)
-  run-done ws slots f d p =
-      record {
-        leaves =
-            rows-done (run-is ws slots) f (record { answer = d .answer; control = d .control; arena = d .arena; table = d .table }) p;
-        slots = rw meant-rows at (d .slots);
-      }
-
-pub run-refused : (ws slots : List ℕ) (c : Control) (a : List ℕ) (e : Eight) (n : ℕ) → eqb n 8 ≡ false
-    → Runs (turnedDown c e .reply) a (tableOf n e) slots (runCall (state c a (tableOf n e)) ws slots)
-run-refused ws slots c a e n h =
-    record {
-      leaves = rows-refused (run-is ws slots .tests) c a e n h;
-      slots =
-          sym (ap (λ (r : Ran). r .slots) (run-wrong ws slots (state c a (tableOf n e)) (rw (no-rows n e h) (wrong-length c a [] refl))));
-    }
 
 -- the calls on the table
 module _ (c : Control) (a : List ℕ) (t : List Row) (e : Eight) (out : e ≡ taken t) where

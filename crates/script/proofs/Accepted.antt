@@ -20,11 +20,13 @@ use Rattle.script.specs.declared.Parsed.{Parsed}
 use Rattle.script.specs.declared.Parsed.the-variants.{Bad, Script}
 use Rattle.script.specs.Numbers.{numberAt}
 use Rattle.script.specs.Printing.{decimal, line1}
-use Rattle.script.specs.Lines.{marked, fieldAt, lineAt, linesAt, counted, sectionOf, sectionAt, scriptOf, stepsBehind, parse, numbersAt}
+use Rattle.script.specs.Lines.{marked, fieldAt, lineAt, linesAt, counted, sectionOf, sectionAt, scriptOf, stepsBehind, parse}
+use Rattle.script.specs.Lines.{numbersAt}
 use Rattle.script.proofs.Numbers.{in-text, picked, number-takes}
 use Rattle.script.specs.Texts.{lineRest, lineText, linesText, scriptText}
 use Rattle.script.proofs.Decimal.{number-stands}
-use Rattle.script.proofs.Lines.{line-ends, line-goes-on, line-breaks, lines-end, lines-go-on, lines-break, numbers-none, numbers-go-on}
+use Rattle.script.proofs.Lines.{line-ends, line-goes-on, line-breaks, lines-end, lines-go-on, lines-break, numbers-none}
+use Rattle.script.proofs.Lines.{numbers-go-on}
 
 -- nothing is found where a number is
 no-number : {A : Type 0} (x : Found) (v next : ℕ) → x ≡ Nothing → x ≡ Number v next → A

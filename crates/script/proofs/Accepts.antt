@@ -14,7 +14,8 @@ use Rattle.script.specs.declared.Parsed.the-variants.{Script}
 use Rattle.script.specs.Numbers.{isDigit, numberAt}
 use Rattle.script.specs.Lines.{fieldAt, lineAt, linesAt, sectionAt, scriptOf, parse, numbersAt}
 use Rattle.script.specs.Printing.{decimal, line1}
-use Rattle.script.proofs.Lines.{field-marked, line-ends, line-goes-on, lines-end, lines-go-on, less-one, numbers-none, numbers-go-on, section-counted, parse-by, script-ends}
+use Rattle.script.proofs.Lines.{field-marked, line-ends, line-goes-on, lines-end, lines-go-on, less-one, numbers-none}
+use Rattle.script.proofs.Lines.{numbers-go-on, section-counted, parse-by, script-ends}
 use Rattle.script.proofs.Numbers.{in-text}
 use Rattle.script.proofs.Decimal.{number-reads}
 use Rattle.script.specs.Texts.{lineRest, lineText, linesText, scriptText}

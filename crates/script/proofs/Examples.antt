@@ -78,7 +78,8 @@ expected x = bytes (x .shown)
 
 pub examples-hold : map replay examples ≡ map expected examples
 unfolding
-    kindTable ofKind laid bit withBit used put putRun countUsed fill freeCells runAt lowestFrom lowestRun every rise atHeader swap forwarded barrier
+    kindTable ofKind laid bit withBit used put putRun countUsed fill freeCells runAt lowestFrom lowestRun
+    every rise atHeader swap forwarded barrier
     replicaWord copyWord settle act stepsFrom isDigit digits valueFrom proper numberAt fieldAt lineAt linesAt sectionAt parse numbersAt
     decimalIn decimal line1 line2 admissionsFrom answerLines fiveTotals printed stepsRun admissionsRun replayed replayText
 examples-hold = refl

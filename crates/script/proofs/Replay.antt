@@ -15,7 +15,7 @@ use Rattle.script.specs.declared.Parsed.{Parsed}
 use Rattle.script.specs.declared.Parsed.the-variants.{Bad, Script}
 use Rattle.script.specs.Lines.{parse}
 use Rattle.script.specs.Printing.{line1, line2, badFile, tooLong, Page, written}
-use Rattle.script.specs.Replay.{admissionAt, admissionsFrom, answerLines, fiveTotals, printed, admissionsRun, stepsRun, replayed, replayText}
+use Rattle.script.specs.Replay.{answerLines, fiveTotals, printed, admissionsRun, stepsRun, replayed, replayText}
 use Rattle.script.proofs.Lines.{less-one}
 use Rattle.script.proofs.Pages.{written-append}
 
@@ -47,12 +47,6 @@ answers-more p f s t l =
     written-append p (line2 (number (f s t .answer)) (value (f s t .answer))) (answerLines (oneByOne f (f s t .next) l .slots))
 
 -- one step less of those that are left
-pub admissions-more : (words : List ℕ) (i left : ℕ) → 0 < left
-    → admissionsFrom words i left ≡ admissionAt words i ∷ admissionsFrom words (i + 1) (left - 1)
-unfolding admissionsFrom
-admissions-more words i zero h = absurd (omega arith)
-admissions-more words i (suc n) h = rw (less-one n, add-one i)
-
 pub steps-more : (words : List ℕ) (i left : ℕ) → 0 < left → stepsFrom words i left ≡ stepAt words i ∷ stepsFrom words (i + 1) (left - 1)
 unfolding stepsFrom
 steps-more words i zero h = absurd (omega arith)

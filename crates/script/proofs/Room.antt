@@ -19,7 +19,8 @@ use Rattle.model.specs.Calls.{Ran, oneByOne, stepsFrom}
 use Rattle.script.specs.declared.Parsed.{Parsed}
 use Rattle.script.specs.declared.Parsed.the-variants.{Bad, Script}
 use Rattle.script.specs.Lines.{parse, numbersAt}
-use Rattle.script.specs.Replay.{admissionsFrom, answerLines, allSwaps, fiveTotals, totalLines, printed, admissionsRun, stepsRun, replayed, replayText}
+use Rattle.script.specs.Replay.{admissionsFrom, answerLines, allSwaps, fiveTotals, totalLines, printed, admissionsRun, stepsRun}
+use Rattle.script.specs.Replay.{replayed, replayText}
 use Rattle.script.specs.Printing.{decimal, line1, line2, page, written}
 use Rattle.script.proofs.Accepted.{Fits, script-fits, bad-low}
 use Rattle.script.proofs.Pages.{put-room, decimal-small, decimal-more}

@@ -26,7 +26,7 @@ fn digit(d: u64) -> u8
 }
 
 // A number in decimal, no needless leading zero.
-pub fn put_number(out: &mut [u8], at: usize, n: u64) -> usize
+fn put_number(out: &mut [u8], at: usize, n: u64) -> usize
     ensures { λ r. ⌜ page (now (out .exit)) r ≡ written (page (now (out .entry)) at) (decimal n) ⌝ }
 {
     if n < 10 {

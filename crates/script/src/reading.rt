@@ -23,6 +23,7 @@ fn byte_at(s: &[u8], at: usize) -> u8
     if at < s.len() { s[at] } else { 0 }
 }
 
+// The bytes `0` to `9`.
 fn is_digit(b: u8) -> bool
     ensures { λ r. ⌜ r ≡ isDigit b ⌝ }
 {
@@ -65,7 +66,7 @@ fn is_proper(first: u8, count: usize, value: u64) -> bool
 }
 
 // The number at a place.
-pub fn number(s: &[u8], at: usize) -> Found
+fn number(s: &[u8], at: usize) -> Found
     ensures { λ r. ⌜ r ≡ numberAt (now (s .entry)) at ⌝ }
 {
     let d = scan(s, at);

@@ -19,7 +19,8 @@ unfolding number
 number-join zero k b at = let q : number k b at ≡ number k b (at + 0) = ap (number k b) (sym (add-zero at)) in rw zero-add (omega arith)
 number-join (suc j) k b at =
     let n = number k b (suc at + j) in
-    let p : 256 ^ suc j * n ≡ 256 * (256 ^ j * n) = ap (λ (x : ℕ). x * n) (pow-suc 256 j ∙ mul-comm (256 ^ j) 256) ∙ mul-assoc 256 (256 ^ j) n in
+    let p : 256 ^ suc j * n ≡ 256 * (256 ^ j * n) =
+    ap (λ (x : ℕ). x * n) (pow-suc 256 j ∙ mul-comm (256 ^ j) 256) ∙ mul-assoc 256 (256 ^ j) n in
     let e : at + suc j ≡ suc at + j = omega arith in
     let q : number k b (at + suc j) ≡ n = ap (number k b) e in
     rw (suc-add, q, number-join j k b (suc at)) (omega arith)
@@ -40,7 +41,8 @@ bytes-join zero k w = rw zero-add (ap (bytes k) (sym (div-one w)))
 bytes-join (suc j) k w =
     let e : 8 * suc j ≡ 8 * j + 8 = omega arith in
     let f : 8 + 8 * j ≡ 8 * j + 8 = omega arith in
-    rw (suc-add, e, mod-mod-pow w (8 * j) 8, field w (8 * j) 8, ← f, ← shr-shr w 8 (8 * j)) (ap (λ (l : List ℕ). w % 256 ∷ l) (bytes-join j k (w / 256)))
+    rw (suc-add, e, mod-mod-pow w (8 * j) 8, field w (8 * j) 8, ← f, ← shr-shr w 8 (8 * j))
+    (ap (λ (l : List ℕ). w % 256 ∷ l) (bytes-join j k (w / 256)))
 
 pub length-all : (k : ℕ) (ws : List ℕ) → length (allBytes k ws) ≡ k * length ws
 unfolding allBytes
@@ -64,7 +66,8 @@ length-numbers k (suc n) b at = ap suc (length-numbers k n b (at + k))
 pub all-append : (k : ℕ) (ws vs : List ℕ) → allBytes k (ws ++ vs) ≡ allBytes k ws ++ allBytes k vs
 unfolding allBytes
 all-append k [] vs = refl
-all-append k (w ∷ ws) vs = ap (λ (l : List ℕ). bytes k w ++ l) (all-append k ws vs) ∙ sym (append-assoc (bytes k w) (allBytes k ws) (allBytes k vs))
+all-append k (w ∷ ws) vs =
+    ap (λ (l : List ℕ). bytes k w ++ l) (all-append k ws vs) ∙ sym (append-assoc (bytes k w) (allBytes k ws) (allBytes k vs))
 
 pub all-one : (k w : ℕ) → allBytes k (w ∷ []) ≡ bytes k w
 unfolding allBytes
@@ -75,7 +78,8 @@ unfolding bytes
 bytes-two w h = let e : w / 256 % 256 ≡ w / 256 = omega arith in ap (λ (x : ℕ). w % 256 ∷ x ∷ []) e
 
 -- the low and the high bytes of a number, laid behind one another
-pub put-join : (j k w : ℕ) (b : List ℕ) (at : ℕ) → laid (laid b at (bytes j (w % 2 ^ (8 * j)))) (at + j) (bytes k (w / 2 ^ (8 * j))) ≡ laid b at (bytes (j + k) w)
+pub put-join : (j k w : ℕ) (b : List ℕ) (at : ℕ)
+    → laid (laid b at (bytes j (w % 2 ^ (8 * j)))) (at + j) (bytes k (w / 2 ^ (8 * j))) ≡ laid b at (bytes (j + k) w)
 put-join j k w b at =
     let lo = bytes j (w % 2 ^ (8 * j)) in
     let hi = bytes k (w / 2 ^ (8 * j)) in
@@ -84,7 +88,8 @@ put-join j k w b at =
     ∙ ap (laid b at) (sym (bytes-join j k w))
 
 -- one number more is read, as a loop's counter has it
-pub one-in : (k i : ℕ) (a b : List ℕ) (at : ℕ) → set (laid a 0 (numbers k i b at)) i (number k b (at + k * i)) ≡ laid a 0 (numbers k (i + 1) b at)
+pub one-in : (k i : ℕ) (a b : List ℕ) (at : ℕ)
+    → set (laid a 0 (numbers k i b at)) i (number k b (at + k * i)) ≡ laid a 0 (numbers k (i + 1) b at)
 one-in k i a b at =
     let ns = numbers k i b at in
     let e : 0 + length ns ≡ i = zero-add (length ns) ∙ length-numbers k i b at in

@@ -19,4 +19,5 @@ laid-append (x ∷ a) (suc i) xs ys = rw suc-add (ap (λ (l : List ℕ). x ∷ l
 -- two stores side by side
 pub two-stores : (a : List ℕ) (i x y : ℕ) → set (set a i x) (i + 1) y ≡ laid a i (x ∷ y ∷ [])
 two-stores a i x y =
-    rw (add-one i) (sym (laid-first a i x (y ∷ []) ∙ laid-first (set a i x) (suc i) y [] ∙ laid-none (set (set a i x) (suc i) y) (suc (suc i))))
+    rw (add-one i)
+    (sym (laid-first a i x (y ∷ []) ∙ laid-first (set a i x) (suc i) y [] ∙ laid-none (set (set a i x) (suc i) y) (suc (suc i))))

@@ -6,6 +6,7 @@ ghost use lib.ListN.{length};
 ghost use Rattle.model.specs.Records.{laid};
 ghost use Rattle.wire.specs.Bytes.{number, bytes, numbers, allBytes};
 
+// Two bytes as one number, the low one first; below, two numbers of two bytes, and two of four.
 fn join2(a: u8, b: u8) -> u16
     ensures { λ r. ⌜ r ≡ a + 256 * b ⌝ }
 {
@@ -24,6 +25,7 @@ fn join8(a: u32, b: u32) -> u64
     (a as u64) + 4294967296 * (b as u64)
 }
 
+// The number of two bytes at a place.
 pub fn get2(b: &[u8], at: usize) -> u16
     requires { ⌜ at + 2 ≤ length (now b) ⌝ }
     ensures { λ r. ⌜ r ≡ number 2 (now (b .entry)) at ⌝ }
@@ -31,6 +33,7 @@ pub fn get2(b: &[u8], at: usize) -> u16
     join2(b[at], b[at + 1])
 }
 
+// The number of four bytes at a place.
 pub fn get4(b: &[u8], at: usize) -> u32
     requires { ⌜ at + 4 ≤ length (now b) ⌝ }
     ensures { λ r. ⌜ r ≡ number 4 (now (b .entry)) at ⌝ }
@@ -38,14 +41,15 @@ pub fn get4(b: &[u8], at: usize) -> u32
     join4(get2(b, at), get2(b, at + 2))
 }
 
-pub fn get8(b: &[u8], at: usize) -> u64
+// The number of eight bytes at a place.
+fn get8(b: &[u8], at: usize) -> u64
     requires { ⌜ at + 8 ≤ length (now b) ⌝ }
     ensures { λ r. ⌜ r ≡ number 8 (now (b .entry)) at ⌝ }
 {
     join8(get4(b, at), get4(b, at + 4))
 }
 
-// A number of two bytes is put at a place.
+// A number is put at a place, in two bytes.
 pub fn put2(b: &mut [u8], at: usize, w: u16)
     requires { ⌜ at + 2 ≤ length (now b) ⌝ }
     ensures { λ r. ⌜ now (b .exit) ≡ laid (now (b .entry)) at (bytes 2 w) ⌝ }
@@ -54,6 +58,7 @@ pub fn put2(b: &mut [u8], at: usize, w: u16)
     b[at + 1] = (w / 256) as u8;
 }
 
+// A number is put at a place, in four bytes.
 pub fn put4(b: &mut [u8], at: usize, w: u32)
     requires { ⌜ at + 4 ≤ length (now b) ⌝ }
     ensures { λ r. ⌜ now (b .exit) ≡ laid (now (b .entry)) at (bytes 4 w) ⌝ }
@@ -62,7 +67,8 @@ pub fn put4(b: &mut [u8], at: usize, w: u32)
     put2(b, at + 2, (w / 65536) as u16);
 }
 
-pub fn put8(b: &mut [u8], at: usize, w: u64)
+// A number is put at a place, in eight bytes.
+fn put8(b: &mut [u8], at: usize, w: u64)
     requires { ⌜ at + 8 ≤ length (now b) ⌝ }
     ensures { λ r. ⌜ now (b .exit) ≡ laid (now (b .entry)) at (bytes 8 w) ⌝ }
 {
@@ -108,6 +114,7 @@ pub fn halves_in(b: &[u8], at: usize) -> [u16; 256]
     out
 }
 
+// The 256 numbers of the directory are put at a place, two bytes each.
 pub fn halves_out(b: &mut [u8], at: usize, ws: [u16; 256])
     requires { ⌜ at + 512 ≤ length (now b) ⌝ }
     ensures { λ r. ⌜ now (b .exit) ≡ laid (now (b .entry)) at (allBytes 2 ws) ⌝ }
@@ -133,6 +140,7 @@ pub fn longs_in(b: &[u8], at: usize) -> [u64; 16]
     out
 }
 
+// The sixteen numbers of the map are put at a place, eight bytes each.
 pub fn longs_out(b: &mut [u8], at: usize, ws: [u64; 16])
     requires { ⌜ at + 128 ≤ length (now b) ⌝ }
     ensures { λ r. ⌜ now (b .exit) ≡ laid (now (b .entry)) at (allBytes 8 ws) ⌝ }

@@ -19,7 +19,9 @@ join4-requires : tie.Need-join4-requires
 join4-requires c κs = search needs
 
 returns : tie.Need-returns
-returns c = c .join4 .ensures ∙ ap₂ (λ (x y : ℕ). x + 65536 * y) (c .before .before .get2 .ensures) (c .before .get22 .ensures) ∙ sym (number-join 2 2 _ _)
+returns c =
+    c .join4 .ensures ∙ ap₂ (λ (x y : ℕ). x + 65536 * y) (c .before .before .get2 .ensures) (c .before .get22 .ensures)
+    ∙ sym (number-join 2 2 _ _)
 
 pub get4-spec : {M : Type 1} → statement M
 get4-spec = tie.close (tie.spec get2-requires add-get2 get2-requires-2 join4-requires returns)

@@ -19,7 +19,9 @@ join8-requires : tie.Need-join8-requires
 join8-requires c κs = search needs
 
 returns : tie.Need-returns
-returns c = c .join8 .ensures ∙ ap₂ (λ (x y : ℕ). x + 4294967296 * y) (c .before .before .get4 .ensures) (c .before .get42 .ensures) ∙ sym (number-join 4 4 _ _)
+returns c =
+    c .join8 .ensures ∙ ap₂ (λ (x y : ℕ). x + 4294967296 * y) (c .before .before .get4 .ensures) (c .before .get42 .ensures)
+    ∙ sym (number-join 4 4 _ _)
 
 pub get8-spec : {M : Type 1} → statement M
 get8-spec = tie.close (tie.spec get4-requires add-get4 get4-requires-2 join8-requires returns)

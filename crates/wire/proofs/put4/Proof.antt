@@ -24,7 +24,8 @@ same-length : tie.Need-same-length
 same-length c = search needs
 
 returns : tie.Need-returns
-returns c = rw (c .before .before .before .before .before .before .put2 .ensures) at (c .before .before .put22 .ensures) ∙ put-join 2 2 _ _ _
+returns c =
+    rw (c .before .before .before .before .before .before .put2 .ensures) at (c .before .before .put22 .ensures) ∙ put-join 2 2 _ _ _
 
 pub put4-spec : {M : Type 1} → statement M
 put4-spec =

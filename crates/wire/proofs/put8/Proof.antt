@@ -24,7 +24,8 @@ same-length : tie.Need-same-length
 same-length c = search needs
 
 returns : tie.Need-returns
-returns c = rw (c .before .before .before .before .before .before .put4 .ensures) at (c .before .before .put42 .ensures) ∙ put-join 4 4 _ _ _
+returns c =
+    rw (c .before .before .before .before .before .before .put4 .ensures) at (c .before .before .put42 .ensures) ∙ put-join 4 4 _ _ _
 
 pub put8-spec : {M : Type 1} → statement M
 put8-spec =

@@ -45,8 +45,11 @@ loop-less c = omega arith
 
 loop-again : tie.Need-loop-again Inv-loop μ-loop
 loop-again c =
-    let l = c .before .before .loop in
-    (ap₂ (λ (a : List ℕ) (x : ℕ). set a (l .i) x) (l .inv .0) (c .get4 .ensures) ∙ one-in 4 (l .i) _ _ _, omega arith, simp length-set (l .inv .2))
+    let l = c .before .before .loop in (
+      ap₂ (λ (a : List ℕ) (x : ℕ). set a (l .i) x) (l .inv .0) (c .get4 .ensures) ∙ one-in 4 (l .i) _ _ _,
+      omega arith,
+      simp length-set (l .inv .2),
+    )
 
 same-length : tie.Need-same-length Inv-loop μ-loop
 same-length c = c .before .loop .inv .2

@@ -46,8 +46,11 @@ loop-less c = omega arith
 loop-again : tie.Need-loop-again Inv-loop μ-loop
 loop-again c =
     let l = c .before .before .before .before .before .before .loop in
-    let p = c .before .before .put4 .ensures in
-    (rw (l .inv .0) at p ∙ one-out 4 (l .i) _ _ _ (c .before .before .before .before .before .loop-test .taken), omega arith, ap length p ∙ length-laid _ _ _ ∙ l .inv .2)
+    let p = c .before .before .put4 .ensures in (
+      rw (l .inv .0) at p ∙ one-out 4 (l .i) _ _ _ (c .before .before .before .before .before .loop-test .taken),
+      omega arith,
+      ap length p ∙ length-laid _ _ _ ∙ l .inv .2,
+    )
 
 same-length : tie.Need-same-length Inv-loop μ-loop
 same-length c = c .before .loop .inv .2

@@ -49,8 +49,9 @@ loop-again c =
     let f = c .before in
     let l = f .before .before .before .before in
     let a = l .before .before .args in (
-      sym (lines-go-on (now (a .s)) (a .spaces) (l .loop .n) (l .loop .place) (l .loop .left) (f .next .given .0 .0) (f .next .given .0 .1 .0)
-          (f .before .before .before .loop-test .taken) (sym (f .before .before .line .ensures) ∙ f .next .given .1)) ∙ l .loop .inv .0,
+      sym (lines-go-on (now (a .s)) (a .spaces) (l .loop .n) (l .loop .place) (l .loop .left) (f .next .given .0 .0)
+          (f .next .given .0 .1 .0) (f .before .before .before .loop-test .taken)
+          (sym (f .before .before .line .ensures) ∙ f .next .given .1)) ∙ l .loop .inv .0,
       omega arith,
     )
 

@@ -57,7 +57,8 @@ loop-again c =
     let s = now (l .before .before .args .s) in
     let e : c .more .result ≡ capped (l .loop .v * 10 + (getD s (l .loop .i) 0 - 48)) =
     c .more .ensures ∙ ap (λ (b : ℕ). capped (l .loop .v * 10 + (b - 48))) (c .before .byte-at2 .ensures) in (
-      ap (λ (v : ℕ). scanned s v (l .loop .i + 1)) e ∙ scan-on s (l .loop .v) (l .loop .i) (digit-here (c .before .before)) ∙ l .loop .inv .0,
+      ap (λ (v : ℕ). scanned s v (l .loop .i + 1)) e
+          ∙ scan-on s (l .loop .v) (l .loop .i) (digit-here (c .before .before)) ∙ l .loop .inv .0,
       rw e (capped-fits (l .loop .v * 10 + (getD s (l .loop .i) 0 - 48))),
     )
 
