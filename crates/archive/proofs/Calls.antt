@@ -13,14 +13,11 @@ use Rattle.model.specs.declared.Answer.the-variants.{Refused, Done}
 use Rattle.model.specs.declared.Control.{Control}
 use Rattle.model.specs.declared.Row.{Row}
 use Rattle.model.specs.Choice.{_and_}
-use Rattle.model.specs.CellMap.{fill}
-use Rattle.model.specs.State.{State}
-use Rattle.model.specs.Answers.{Outcome, outcome, number}
-use Rattle.model.specs.Fresh.{freshControl}
-use Rattle.model.specs.Steps.{Step, step, refused, act}
+use Rattle.model.specs.Arena.{fill}
+use Rattle.model.specs.State.{State, Outcome, outcome, number, freshControl}
+use Rattle.model.specs.Steps.{Step, step, refused, act, wrongSize, unsound, freshCall, auditCall, fillCall, stepCall, Ran, ran, oneByOne}
+use Rattle.model.specs.Steps.{stepsFrom, stepsOf, runSizes, runCall}
 use Rattle.model.specs.Rules.{firstBroken}
-use Rattle.model.specs.Calls.{wrongSize, unsound, freshCall, auditCall, fillCall, stepCall}
-use Rattle.model.specs.Calls.{Ran, ran, oneByOne, stepsFrom, stepsOf, runSizes, runCall}
 use Rattle.model.proofs.Choice.{by-test, and-parts}
 use Rattle.model.proofs.Records.{laid-all}
 use Rattle.model.proofs.Refusals.{refused-by-given, accepted-by-given}

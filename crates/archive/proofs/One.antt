@@ -4,8 +4,8 @@ use mathlib.Core.List.{List}
 use Prim.Native.Nat.{ℕ}
 use Rattle.model.specs.declared.Answer.{Answer}
 use Rattle.model.specs.declared.Control.{Control}
-use Rattle.model.specs.Answers.{Outcome}
-use Rattle.model.specs.Calls.{Ran}
+use Rattle.model.specs.State.{Outcome}
+use Rattle.model.specs.Steps.{Ran}
 use Rattle.archive.specs.declared.Reply.{Reply}
 use Rattle.archive.specs.Does.{CallDoes, RunDoes, LookDoes}
 use Rattle.archive.proofs.Calls.{reply}

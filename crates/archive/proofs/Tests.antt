@@ -13,7 +13,7 @@ use Rattle.model.specs.declared.Control.{Control}
 use Rattle.model.specs.State.{State}
 use Rattle.model.specs.Refusals.{_if_, refuse}
 use Rattle.model.specs.Rules.{firstBroken}
-use Rattle.model.specs.Calls.{wrongSize, unsound}
+use Rattle.model.specs.Steps.{wrongSize, unsound}
 use Rattle.model.proofs.Choice.{and-parts, same-or-not}
 use Rattle.model.proofs.Readings.{says-R6, sound-of}
 use Rattle.table.specs.Words.{tableWords, rowsOf}

@@ -9,10 +9,9 @@ use Rattle.model.specs.declared.Row.{Row}
 use Rattle.model.specs.declared.Control.{Control}
 use Rattle.model.specs.declared.Answer.{Answer}
 use Rattle.model.specs.Choice.{pick, _and_}
-use Rattle.model.specs.State.{State, state}
-use Rattle.model.specs.Answers.{Outcome, number}
+use Rattle.model.specs.State.{State, state, Outcome, number}
 use Rattle.model.specs.Refusals.{Refusal, _if_, refuse}
-use Rattle.model.specs.Calls.{wrongSize, unsound, Ran}
+use Rattle.model.specs.Steps.{wrongSize, unsound, Ran}
 use Rattle.table.specs.Words.{tableWords, rowsOf}
 use Rattle.archive.specs.declared.Reply.{Reply}
 

@@ -2,8 +2,7 @@
 // Sizes first, then soundness, once a call; a refused call changes nothing.
 ghost use mathlib.Core.Path.{_≡_};
 ghost use lib.ListN.{length, replicate};
-ghost use Rattle.model.specs.Steps.{step};
-ghost use Rattle.model.specs.Calls.{freshCall, stepCall, runCall, fillCall, auditCall, runSizes};
+ghost use Rattle.model.specs.Steps.{step, freshCall, stepCall, runCall, fillCall, auditCall, runSizes};
 ghost use Rattle.archive.specs.Does.{meant, CallDoes, RunDoes, LookDoes, refusalOf, rightSizes};
 use model::Answer;
 use model::Control;

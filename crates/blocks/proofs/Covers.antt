@@ -9,7 +9,7 @@ use lib.Dec.{eqb}
 use lib.ListN.{length, getD, take}
 use borrow.Author.Tests.{eqb-true, not-false}
 use Rattle.model.specs.Choice.{total}
-use Rattle.model.specs.Records.{none, cellsAt}
+use Rattle.model.specs.Arena.{none, cellsAt}
 use Rattle.model.specs.Rules.{isCell, covers, recordCovers}
 use Rattle.model.proofs.Choice.{order, by-test}
 use Rattle.model.proofs.Covers.{covers-in, covers-out}

@@ -12,11 +12,11 @@ use lib.ListN.{length, getD, set, length-set, List·getD-eq-default}
 use lib.Seq.{getD-set-same, getD-set-other, set-out}
 use borrow.Author.Tests.{eq-eqb, eqb-true}
 use Rattle.model.specs.Choice.{_and_}
-use Rattle.model.specs.CellMap.{bit, used}
+use Rattle.model.specs.Arena.{bit, used, IsMap}
 use Rattle.model.specs.Rules.{covers}
 use Rattle.model.proofs.Choice.{order, same-or-not, and-parts, and-true}
 use Rattle.model.proofs.Bits.{bit-or, bit-and, bit-high, bits-ext}
-use Rattle.model.proofs.CellMap.{IsMap, used-at, set-map}
+use Rattle.model.proofs.CellMap.{used-at, set-map}
 use Rattle.model.proofs.Covers.{covers-out}
 use Rattle.cells.specs.Words.{lowMask, highMask}
 use Rattle.blocks.specs.Lay.{layWord, freeWord, layFirst, lay, free}

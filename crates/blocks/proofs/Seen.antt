@@ -11,15 +11,13 @@ use lib.Seq.{ext-getD, take-length}
 use Rattle.model.specs.declared.Lengths.{Lengths}
 use Rattle.model.specs.declared.Move.{Move}
 use Rattle.model.specs.Choice.{pick, every, total}
-use Rattle.model.specs.Kinds.{kindTable, ofKind, cells}
-use Rattle.model.specs.Records.{none, label, kindOf, cellsAt}
-use Rattle.model.specs.CellMap.{used}
+use Rattle.model.specs.Arena.{kindTable, ofKind, cells, none, label, kindOf, cellsAt, used, IsMap}
 use Rattle.model.specs.State.{Stage, idle, firstBarrier, copying, secondBarrier, thirdBarrier, stageOf, entry}
 use Rattle.model.specs.Rules.{early, late, covers, recordCovers, otherCovers, blocksOver, R3}
 use Rattle.model.proofs.Choice.{clash}
 use Rattle.model.proofs.Says.{Says, says-as, says-same, says-every, says-eq, refute}
 use Rattle.model.proofs.Readings.{CellsRight, says-R3}
-use Rattle.model.proofs.CellMap.{IsMap, used-lt, fresh-map, fresh-free, map-ext}
+use Rattle.model.proofs.CellMap.{used-lt, fresh-map, fresh-free, map-ext}
 use Rattle.model.proofs.Covers.{covers-le, covers-out}
 use Rattle.blocks.specs.declared.Block.{Block}
 use Rattle.blocks.specs.Lay.{lay, free, sameWord, block, otherBlock}

@@ -7,7 +7,7 @@ use lib.Dec.{eqb}
 use lib.ListN.{getD, set}
 use Rattle.model.specs.declared.Move.{Move}
 use Rattle.model.specs.Choice.{_and_}
-use Rattle.model.specs.Records.{cellsAt}
+use Rattle.model.specs.Arena.{cellsAt}
 use Rattle.model.specs.State.{Stage, idle, firstBarrier, copying, secondBarrier, thirdBarrier}
 use Rattle.blocks.specs.declared.Block.{Block}
 use Rattle.cells.specs.Words.{lowMask, highMask}

@@ -3,11 +3,10 @@
 ghost use mathlib.Core.Path.{_≡_};
 ghost use Prim.Native.Nat.{_<_};
 ghost use lib.ListN.{length};
-ghost use Rattle.model.specs.Records.{cellsAt};
+ghost use Rattle.model.specs.Arena.{cellsAt, IsMap};
 ghost use Rattle.model.specs.State.{stageOf};
 ghost use Rattle.model.specs.Rules.{early, late, R3};
 ghost use Rattle.model.specs.Choice.{every};
-ghost use Rattle.model.proofs.CellMap.{IsMap};
 ghost use Rattle.blocks.specs.Lay.{layWord, freeWord, lay, free, sameWord, otherBlock};
 
 const CELLS: u32 = 1024;

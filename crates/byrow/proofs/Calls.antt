@@ -8,12 +8,10 @@ use Prim.Native.Nat.{ℕ}
 use native.Mathlib.Omega.{arith}
 use borrow.Author.Tests.{ltb-true, ltb-false}
 use Rattle.model.specs.declared.Answer.the-variants.{Refused, Done}
-use Rattle.model.specs.State.{State}
-use Rattle.model.specs.Answers.{Outcome, outcome, number}
-use Rattle.model.specs.Fresh.{fresh}
+use Rattle.model.specs.State.{State, Outcome, outcome, number, fresh}
 use Rattle.model.specs.Refusals.{_if_}
-use Rattle.model.specs.Steps.{Step, act, refused}
-use Rattle.model.specs.Calls.{wrongSize, unsound, freshCall, stepCall, fillCall, auditCall, runCall, Ran, ran, oneByOne, stepsOf, runSizes}
+use Rattle.model.specs.Steps.{Step, act, refused, wrongSize, unsound, freshCall, stepCall, fillCall, auditCall, runCall, Ran, ran, oneByOne}
+use Rattle.model.specs.Steps.{stepsOf, runSizes}
 use Rattle.model.proofs.Refusals.{unless-refused}
 use Rattle.model.proofs.Answered.{answered}
 use Rattle.table.proofs.FourHolds.{four-fresh}

@@ -10,10 +10,8 @@ use borrow.Author.Tests.{eq-eqb}
 use Rattle.model.specs.declared.Row.{Row}
 use Rattle.model.specs.declared.Control.{Control}
 use Rattle.model.specs.Choice.{_and_}
-use Rattle.model.specs.State.{State, state}
-use Rattle.model.specs.Answers.{Outcome}
-use Rattle.model.specs.Steps.{refused}
-use Rattle.model.specs.Calls.{wrongSize, runCall, Ran}
+use Rattle.model.specs.State.{State, state, Outcome}
+use Rattle.model.specs.Steps.{refused, wrongSize, runCall, Ran}
 use Rattle.table.specs.Words.{tableWords, rowsRead}
 use Rattle.table.proofs.FourHolds.{FourHolds}
 use Rattle.table.proofs.Rows.{rows-of-words}

@@ -9,9 +9,8 @@ use Rattle.model.specs.declared.Control.{Control}
 use Rattle.model.specs.declared.Answer.{Answer}
 use Rattle.model.specs.declared.Answer.the-variants.{Refused}
 use Rattle.model.specs.Choice.{pick}
-use Rattle.model.specs.State.{State}
-use Rattle.model.specs.Answers.{Outcome}
-use Rattle.model.specs.Calls.{Ran}
+use Rattle.model.specs.State.{State, Outcome}
+use Rattle.model.specs.Steps.{Ran}
 use Rattle.rows.specs.declared.Eight.{Eight}
 use Rattle.rows.specs.Eight.{rowsIn}
 use Rattle.archive.specs.declared.Reply.{Reply}

@@ -2,8 +2,7 @@
 // The caller says how many rows its table has; of any other number than eight no row is looked at.
 ghost use mathlib.Core.Path.{_≡_};
 ghost use Rattle.model.specs.State.{state};
-ghost use Rattle.model.specs.Steps.{step};
-ghost use Rattle.model.specs.Calls.{freshCall, stepCall, runCall, fillCall, auditCall};
+ghost use Rattle.model.specs.Steps.{step, freshCall, stepCall, runCall, fillCall, auditCall};
 ghost use Rattle.table.specs.Words.{tableWords, rowRead, rowsRead, putRow};
 ghost use Rattle.table.proofs.FourHolds.{FourHolds};
 ghost use Rattle.rows.specs.Eight.{rowsIn};

@@ -5,13 +5,10 @@ use Prim.Native.Nat.{ℕ, zero, suc, _*_}
 use lib.Dec.{T, eqb}
 use lib.ListN.{take}
 use Rattle.model.specs.Choice.{_and_, all, total}
-use Rattle.model.specs.Kinds.{kindTable, ofKind}
-use Rattle.model.specs.Records.{laid}
-use Rattle.model.specs.CellMap.{bit, withBit, used, put, putRun, countUsed, fill, freeCells, runAt, lowestFrom, lowestRun}
+use Rattle.model.specs.Arena.{kindTable, ofKind, laid, bit, withBit, used, put, putRun, countUsed, fill, freeCells, runAt, lowestFrom}
+use Rattle.model.specs.Arena.{lowestRun}
 use Rattle.model.specs.Rows.{swapsOf}
-use Rattle.model.specs.State.{State, rise}
-use Rattle.model.specs.Answers.{number, value}
-use Rattle.model.specs.Fresh.{fresh}
+use Rattle.model.specs.State.{State, rise, number, value, fresh}
 use Rattle.model.specs.ClientSteps.{atHeader, swap, forwarded}
 use Rattle.model.specs.KeeperSteps.{barrier, replicaWord, copyWord, settle}
 use Rattle.model.specs.Steps.{Step, step, act}

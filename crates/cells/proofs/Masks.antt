@@ -8,7 +8,7 @@ use native.Mathlib.Omega.{arith}
 use lib.Bits.{or-lt, and-lt}
 use lib.Pow.{pow-pos, pow-lt, shl-shr, shr-le, ones-lt}
 use Rattle.model.specs.Choice.{one}
-use Rattle.model.specs.CellMap.{bit}
+use Rattle.model.specs.Arena.{bit}
 use Rattle.model.proofs.Bits.{bit-lt, bit-shr, bit-low, bit-high, bit-not, bit-or, bit-and}
 use Rattle.cells.specs.Words.{lowMask, highMask, masked, sought}
 

@@ -8,9 +8,9 @@ use native.Mathlib.Omega.{arith}
 use lib.ListN.{getD, set}
 use lib.Seq.{getD-set-same, getD-set-other, set-out}
 use Rattle.model.specs.Choice.{one}
-use Rattle.model.specs.CellMap.{bit, used, putRun}
+use Rattle.model.specs.Arena.{bit, used, putRun, IsMap}
 use Rattle.model.proofs.Choice.{order, same-or-not}
-use Rattle.model.proofs.CellMap.{IsMap, set-map, run-map, used-run-in, used-run-other, map-ext}
+use Rattle.model.proofs.CellMap.{set-map, run-map, used-run-in, used-run-other, map-ext}
 use Rattle.cells.specs.Words.{lowMask, highMask, masked}
 use Rattle.cells.proofs.Masks.{low-in, low-out, high-in, high-out, low-fits, high-fits, masked-fits, masked-in, masked-out}
 

@@ -9,10 +9,10 @@ use native.Mathlib.Omega.{arith}
 use lib.ListN.{getD}
 use lib.Count.{trailingZeros}
 use Rattle.model.specs.Choice.{one}
-use Rattle.model.specs.CellMap.{bit, used, lowestRun}
+use Rattle.model.specs.Arena.{bit, used, lowestRun, IsMap}
 use Rattle.model.proofs.Choice.{order}
 use Rattle.model.proofs.Bits.{bit-shr, bit-high, zeros-below, zeros-at}
-use Rattle.model.proofs.CellMap.{IsMap, FreeRun, IsLowest, lowest-is-lowest, lowest-unique}
+use Rattle.model.proofs.CellMap.{FreeRun, IsLowest, lowest-is-lowest, lowest-unique}
 use Rattle.cells.specs.Words.{sought, NextCell}
 use Rattle.cells.proofs.Masks.{sought-one, sought-zero, sought-fits}
 

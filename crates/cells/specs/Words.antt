@@ -5,7 +5,7 @@ use mathlib.Core.List.{List}
 use Prim.Native.Nat.{ℕ, _-_, _*_, _/_, _%_, _^_, _≤_, _<_}
 use lib.Bits.{bitAnd, bitOr}
 use Rattle.model.specs.Choice.{one}
-use Rattle.model.specs.CellMap.{used}
+use Rattle.model.specs.Arena.{used}
 
 -- n ones from bit k on: those that lie in the word, and those that run over into the next
 unfoldable pub lowMask : ℕ → ℕ → ℕ

@@ -3,9 +3,8 @@
 ghost use mathlib.Core.Path.{_≡_};
 ghost use Prim.Native.Nat.{_<_, _≤_};
 ghost use lib.Dec.{eqb};
-ghost use Rattle.model.specs.CellMap.{used, putRun, fill, lowestRun};
+ghost use Rattle.model.specs.Arena.{used, putRun, fill, lowestRun, IsMap};
 ghost use Rattle.model.specs.Choice.{one};
-ghost use Rattle.model.proofs.CellMap.{IsMap};
 ghost use Rattle.cells.specs.Words.{lowMask, highMask, masked, sought, NextCell};
 
 const CELLS: u32 = 1024;

@@ -14,12 +14,11 @@ use Rattle.model.specs.declared.Stepped.{Stepped}
 use Rattle.model.specs.declared.Access.the-variants.{Read, Write}
 use Rattle.model.specs.declared.Answer.the-variants.{Refused}
 use Rattle.model.specs.Rows.{freshRow}
-use Rattle.model.specs.State.{State, state, entry}
-use Rattle.model.specs.Answers.{outcome}
+use Rattle.model.specs.State.{State, state, entry, outcome}
 use Rattle.model.specs.ClientSteps.{attach, detach, openHold, dropHold, loadHeader, go, rest}
 use Rattle.model.specs.Refusals.{Refusal, refuse}
-use Rattle.model.specs.Steps.{Step, Name, ADMIT, RETIRE, BEGIN, ADVANCE, ATTACH, DETACH, OPEN, DROP, READ, WRITE, GO, REST}
-use Rattle.model.specs.Steps.{UNKNOWN, NOBODY, clientCodes, named, ownRow, refusals, seated, effect, refused, act}
+use Rattle.model.specs.Steps.{Step, Name, ADMIT, RETIRE, BEGIN, ADVANCE, ATTACH, DETACH, OPEN, DROP, READ, WRITE, GO, REST, UNKNOWN, NOBODY}
+use Rattle.model.specs.Steps.{clientCodes, named, ownRow, refusals, seated, effect, refused, act}
 use Rattle.clients.specs.Turns.{turn, refusedTurn, clientTurn}
 
 -- a refused turn leaves the state as it was

@@ -3,7 +3,7 @@ use mathlib.Core.Path.{_≡_}
 use mathlib.Core.Bool.{false}
 use Prim.Native.Nat.{ℕ, _^_, _<_}
 use native.Mathlib.Omega.{arith}
-use Rattle.model.specs.Records.{plain, flagged}
+use Rattle.model.specs.Arena.{plain, flagged}
 use Rattle.record.specs.Words.{packed}
 use Rattle.record.proofs.Words.{packed-plain}
 

@@ -13,8 +13,7 @@ use Rattle.model.specs.declared.Phase.{Phase}
 use Rattle.model.specs.declared.Phase.the-variants.{Resting, Ready, Waiting}
 use Rattle.model.specs.declared.Row.{Row}
 use Rattle.model.specs.Rows.{freshRow}
-use Rattle.model.specs.State.{State}
-use Rattle.model.specs.Answers.{number, Outcome}
+use Rattle.model.specs.State.{State, number, Outcome}
 use Rattle.model.specs.Steps.{Step, act}
 use Rattle.model.proofs.Says.{getD-fresh}
 use Rattle.demands.specs.Promises.{TwoOrThree, two, three}

@@ -10,9 +10,7 @@ use lib.Seq.{getD-set-same, getD-set-other}
 use borrow.Author.Tests.{eqb-true, eqb-false, eq-eqb, ne-eqb, ltb-false, not-false}
 use Rattle.model.specs.declared.Row.{Row}
 use Rattle.model.specs.declared.Move.{Move}
-use Rattle.model.specs.Kinds.{cells, words}
-use Rattle.model.specs.Records.{none, start, word, header, label, newRecord, laid}
-use Rattle.model.specs.CellMap.{lowestRun, putRun}
+use Rattle.model.specs.Arena.{cells, words, none, start, word, header, label, newRecord, laid, lowestRun, putRun}
 use Rattle.model.specs.State.{Stage, idle, firstBarrier, copying, secondBarrier, thirdBarrier, stageOf, entry, State}
 use Rattle.model.specs.Rules as rules
 use Rattle.model.specs.Steps.{Step, ADMIT}
@@ -23,13 +21,11 @@ use Rattle.demands.specs.Log.{Client, Account, update}
 use Rattle.demands.proofs.Lists.{set-cases}
 use Rattle.demands.proofs.Owners.{other, Owns, repaint, repaint-cases, repaint-in, owns-keep, mapped-run, run-unowned}
 use Rattle.demands.proofs.Words.{laid-else}
-use Rattle.demands.proofs.Inv.{RowOK, own-head, EntryOK, Sides, early}
-use Rattle.demands.proofs.Inv.{late, SidesOK, Block, in-entry, in-other, Count, Core, Inv}
+use Rattle.demands.proofs.Inv.{RowOK, own-head, EntryOK, Sides, early, late, SidesOK, Block, in-entry, in-other, Count, Core, Inv}
 use Rattle.demands.proofs.Blocks.{meter-lt, home-in, home-lt, home-entry, home-real, copied-fit, held-in}
 use Rattle.demands.proofs.Entries.{carry-entry, same-account}
-use Rattle.demands.proofs.RowLaws.{reflag-row}
+use Rattle.demands.proofs.RowLaws.{reflag-row, redirected-row}
 use Rattle.demands.proofs.Keeping.{Keeps, keeps}
-use Rattle.demands.proofs.RowLaws.{redirected-row}
 
 count-same : (g : Stage) (z z′ n : ℕ) → (T (rules.early g) → z ≡ z′) → (T (rules.late g) → z ≡ z′) → Count g z n → Count g z′ n
 count-same idle z z′ n e f k = tt

@@ -7,12 +7,11 @@ use native.Mathlib.Omega.{arith}
 use lib.Dec.{ltb}
 use lib.ListN.{replicate}
 use borrow.Author.Tests.{ltb-true}
-use Rattle.model.specs.Records.{none, header}
+use Rattle.model.specs.Arena.{none, header}
 use Rattle.model.specs.Rows.{freshRow}
-use Rattle.model.specs.State.{State, noMove}
-use Rattle.model.specs.Fresh.{fresh}
-use Rattle.model.specs.Steps.{Step, Name, ADMIT, RETIRE, BEGIN, ADVANCE, ATTACH, DETACH, OPEN, DROP, READ, WRITE, GO, REST, UNKNOWN}
-use Rattle.model.specs.Steps.{NOBODY, named, nameOf, act}
+use Rattle.model.specs.State.{State, noMove, fresh}
+use Rattle.model.specs.Steps.{Step, Name, ADMIT, RETIRE, BEGIN, ADVANCE, ATTACH, DETACH, OPEN, DROP, READ, WRITE, GO, REST, UNKNOWN, NOBODY}
+use Rattle.model.specs.Steps.{named, nameOf, act}
 use Rattle.model.proofs.Choice.{by-test}
 use Rattle.model.proofs.CellMap.{fresh-map, fresh-free}
 use Rattle.model.proofs.Says.{getD-fresh}

@@ -10,9 +10,7 @@ use Rattle.model.specs.declared.Access.{Access}
 use Rattle.model.specs.declared.Phase.the-variants.{Resting, Ready}
 use Rattle.model.specs.declared.Row.{Row}
 use Rattle.model.specs.declared.Move.{Move}
-use Rattle.model.specs.Kinds.{cells}
-use Rattle.model.specs.Records.{none, place, label, kindOf, flagged}
-use Rattle.model.specs.CellMap.{lowestRun, putRun}
+use Rattle.model.specs.Arena.{cells, none, place, label, kindOf, flagged, lowestRun, putRun}
 use Rattle.model.specs.Rows.{cleared, clearMarks}
 use Rattle.model.specs.State.{withMove, withBegun, rise, entry, State, state}
 use Rattle.model.specs.KeeperSteps.{taken, firstMove}

@@ -7,12 +7,10 @@ use native.Mathlib.Omega.{arith}
 use lib.Dec.{T}
 use lib.ListN.{length}
 use Rattle.model.specs.declared.Move.{Move}
-use Rattle.model.specs.Kinds.{cells, words}
-use Rattle.model.specs.Records.{none, header, plain, flagged, label, kindOf}
+use Rattle.model.specs.Arena.{cells, words, none, header, plain, flagged, label, kindOf, IsMap}
 use Rattle.model.specs.State.{Stage, idle, firstBarrier, copying, secondBarrier, thirdBarrier, stageOf, noMove, entry}
 use Rattle.model.specs.Rules as rules
 use Rattle.model.proofs.ByKind.{Real, real}
-use Rattle.model.proofs.CellMap.{IsMap}
 use Rattle.demands.proofs.Stages.{first, First, Early, not-both}
 use Rattle.demands.proofs.Lists.{getD-in}
 use Rattle.demands.proofs.Owners.{other, Mapped}

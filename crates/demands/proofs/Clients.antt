@@ -15,7 +15,7 @@ use Rattle.model.specs.declared.Phase.the-variants.{Resting, Ready, Waiting}
 use Rattle.model.specs.declared.Move.{Move}
 use Rattle.model.specs.declared.Stepped.{Stepped}
 use Rattle.model.specs.declared.Access.the-variants.{Read, Write}
-use Rattle.model.specs.Records.{none, header, targetOf, flagOf, payloadAt}
+use Rattle.model.specs.Arena.{none, header, targetOf, flagOf, payloadAt}
 use Rattle.model.specs.Rows.{holdOf, wordOf, busy, hold, emptyHolds, withAttached, withPassed, withHolds, withPhase}
 use Rattle.model.specs.State.{State, entry}
 use Rattle.model.specs.ClientSteps.{atHeader, loadHeader, forwarded}

@@ -10,8 +10,7 @@ use lib.Seq.{getD-set-same, getD-set-other}
 use borrow.Author.Tests.{not-true}
 use Rattle.model.specs.declared.Row.{Row}
 use Rattle.model.specs.declared.Move.{Move}
-use Rattle.model.specs.Kinds.{cells}
-use Rattle.model.specs.Records.{none, place, word, header, plain, flagged}
+use Rattle.model.specs.Arena.{cells, none, place, word, header, plain, flagged}
 use Rattle.model.specs.Rows.{cleared}
 use Rattle.model.specs.State.{secondBarrier, stageOf, rise, entry, State}
 use Rattle.model.specs.KeeperSteps.{commit}

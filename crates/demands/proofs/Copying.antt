@@ -12,8 +12,7 @@ use borrow.Author.Tests.{eqb-true, eqb-false, eq-eqb, ne-eqb}
 use Rattle.model.specs.declared.Row.{Row}
 use Rattle.model.specs.declared.Move.{Move}
 use Rattle.model.specs.Choice.{one}
-use Rattle.model.specs.Kinds.{cells, words}
-use Rattle.model.specs.Records.{place, word, header, plain, label, labelOf, wordsAt}
+use Rattle.model.specs.Arena.{cells, words, place, word, header, plain, label, labelOf, wordsAt}
 use Rattle.model.specs.Rows.{freshRow, withPassed, cleared, allPassed}
 use Rattle.model.specs.State.{Stage, firstBarrier, copying, stageOf, inHand, rise, entry, State}
 use Rattle.model.specs.KeeperSteps.{startCopying, replicaWord, copyWord}

@@ -9,11 +9,10 @@ use borrow.Author.Tests.{ne-eqb}
 use Rattle.model.specs.declared.Answer.{Answer}
 use Rattle.model.specs.declared.Answer.the-variants.{Refused, BarrierOpen}
 use Rattle.model.specs.Choice.{one}
-use Rattle.model.specs.State.{State}
-use Rattle.model.specs.Answers.{number, Outcome}
+use Rattle.model.specs.State.{State, number, Outcome}
 use Rattle.model.specs.Steps.{Step}
-use Rattle.demands.proofs.Did.{Kept, admits, retires, begins, starts, copies, fills, commits, calls-off, gives-back}
-use Rattle.demands.proofs.Did.{Did, refuses, stays, keeps, acts}
+use Rattle.demands.proofs.Did.{Kept, admits, retires, begins, starts, copies, fills, commits, calls-off, gives-back, Did, refuses}
+use Rattle.demands.proofs.Did.{stays, keeps, acts}
 
 -- 1 for the answer n
 abbrev pub hits : ℕ → Answer → ℕ

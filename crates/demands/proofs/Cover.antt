@@ -9,8 +9,7 @@ use lib.ListN.{length}
 use borrow.Author.Tests.{eqb-true}
 use Rattle.model.specs.declared.Move.{Move}
 use Rattle.model.specs.Choice.{total}
-use Rattle.model.specs.Records.{none}
-use Rattle.model.specs.CellMap.{used}
+use Rattle.model.specs.Arena.{none, used}
 use Rattle.model.specs.State.{entry}
 use Rattle.model.specs.Rules.{recordCovers, blocksOver}
 use Rattle.model.proofs.Choice.{by-test, order, same-or-not}

@@ -18,20 +18,17 @@ use Rattle.model.specs.declared.Phase.the-variants.{Resting, Ready, Waiting}
 use Rattle.model.specs.declared.Row.{Row}
 use Rattle.model.specs.declared.Move.{Move}
 use Rattle.model.specs.declared.Stepped.{Stepped}
-use Rattle.model.specs.Kinds.{cells}
-use Rattle.model.specs.Records.{none, place, word, header, flagged, flagOf, cellsAt, wordsAt}
-use Rattle.model.specs.CellMap.{lowestRun}
+use Rattle.model.specs.Arena.{cells, none, place, word, header, flagged, flagOf, cellsAt, wordsAt, lowestRun}
 use Rattle.model.specs.Rows.{holdOf, wordOf, isWrite, busy, hold, clearMarks, allPassed}
 use Rattle.model.specs.State.{Stage, idle, firstBarrier, copying, secondBarrier, thirdBarrier, stageOf, rise, entry, State, withArena}
-use Rattle.model.specs.State.{withRow}
-use Rattle.model.specs.Answers.{number, value, Outcome, outcome}
+use Rattle.model.specs.State.{withRow, number, value, Outcome, outcome}
 use Rattle.model.specs.KeeperSteps.{admit, retire, begin, barrier, startCopying, copied, copyWord, commit, callOff, settle, giveBack}
 use Rattle.model.specs.KeeperSteps.{advance}
 use Rattle.model.specs.ClientSteps.{atHeader, loadHeader, swap, finish, go}
 use Rattle.model.specs.Rules.{isEarly}
 use Rattle.model.specs.Refusals.{Refusal, refuse}
-use Rattle.model.specs.Steps.{Step, Name, ADMIT, RETIRE, BEGIN, ADVANCE, ATTACH, DETACH, OPEN, DROP, READ, WRITE, GO, REST, UNKNOWN}
-use Rattle.model.specs.Steps.{NOBODY, nameOf, ownRow, refusals, seated, effect, refused, act}
+use Rattle.model.specs.Steps.{Step, Name, ADMIT, RETIRE, BEGIN, ADVANCE, ATTACH, DETACH, OPEN, DROP, READ, WRITE, GO, REST, UNKNOWN, NOBODY}
+use Rattle.model.specs.Steps.{nameOf, ownRow, refusals, seated, effect, refused, act}
 use Rattle.model.proofs.Choice.{by-test, clash}
 use Rattle.model.proofs.ByKind.{real}
 use Rattle.model.proofs.Parties.{ofKeeper, ofClient, keeper-who, client-who}

@@ -10,12 +10,9 @@ use lib.Dec.{eqb}
 use borrow.Author.Tests.{eqb-true, eqb-false}
 use Rattle.model.specs.declared.Row.{Row}
 use Rattle.model.specs.declared.Move.{Move}
-use Rattle.model.specs.Kinds.{cells}
-use Rattle.model.specs.Records.{none, header, flagged}
-use Rattle.model.specs.CellMap.{putRun}
+use Rattle.model.specs.Arena.{cells, none, header, flagged, putRun}
 use Rattle.model.specs.Rows.{allPassed}
-use Rattle.model.specs.State.{Stage, idle, firstBarrier, copying, secondBarrier, thirdBarrier, stageOf, noMove, rise, entry, State}
-use Rattle.model.specs.Answers.{Outcome}
+use Rattle.model.specs.State.{Stage, idle, firstBarrier, copying, secondBarrier, thirdBarrier, stageOf, noMove, rise, entry, State, Outcome}
 use Rattle.model.specs.KeeperSteps.{barrier, startCopying, settle, callOff, giveBack, advance}
 use Rattle.model.specs.Rules.{isEarly}
 use Rattle.model.specs.Steps.{Step, ADVANCE}

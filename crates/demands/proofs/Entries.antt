@@ -7,8 +7,7 @@ use Prim.Native.Nat.{ℕ, _+_, _*_, _<_}
 use native.Mathlib.Omega.{arith}
 use lib.ListN.{set}
 use Rattle.model.specs.declared.Move.{Move}
-use Rattle.model.specs.Kinds.{cells}
-use Rattle.model.specs.Records.{none, place, word, header}
+use Rattle.model.specs.Arena.{cells, none, place, word, header}
 use Rattle.model.specs.State.{entry}
 use Rattle.model.proofs.Choice.{same-or-not}
 use Rattle.model.proofs.ByKind.{Real, real}

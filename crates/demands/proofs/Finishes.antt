@@ -16,8 +16,7 @@ use Rattle.model.specs.declared.Phase.{Phase}
 use Rattle.model.specs.declared.Phase.the-variants.{Resting}
 use Rattle.model.specs.declared.Move.{Move}
 use Rattle.model.specs.declared.Stepped.{Stepped}
-use Rattle.model.specs.Kinds.{cells, payload}
-use Rattle.model.specs.Records.{none, place, word, header}
+use Rattle.model.specs.Arena.{cells, payload, none, place, word, header}
 use Rattle.model.specs.Rows.{holdOf, wordOf, busy, freshRow, withPhase}
 use Rattle.model.specs.State.{State, entry}
 use Rattle.model.specs.ClientSteps.{finish, go}
@@ -29,8 +28,8 @@ use Rattle.demands.proofs.Stages.{Early, Late, not-both}
 use Rattle.demands.proofs.Lists.{set-both}
 use Rattle.demands.proofs.Owners.{other, Owns}
 use Rattle.demands.proofs.Words.{put-at, put-else}
-use Rattle.demands.proofs.Inv.{Flag, HoldOK, empty, here, was, Place, at-entry, at-hold, rests, ready, waits, RowOK, EntryOK}
-use Rattle.demands.proofs.Inv.{early, late, Core, Inv}
+use Rattle.demands.proofs.Inv.{Flag, HoldOK, empty, here, was, Place, at-entry, at-hold, rests, ready, waits, RowOK, EntryOK, early}
+use Rattle.demands.proofs.Inv.{late, Core, Inv}
 use Rattle.demands.proofs.Blocks.{meter-lt, home-in, home-entry, home-real, side-apart, copied-fit, first-uncopied, held-in}
 use Rattle.demands.proofs.Keeping.{Keeps, keeps}
 use Rattle.demands.proofs.RowLaws.{oldHeader, PhaseIn, ReadyIn, RowIn, reflag-row, row-in, with-rows}

@@ -13,10 +13,9 @@ use Rattle.model.specs.declared.Phase.{Phase}
 use Rattle.model.specs.declared.Phase.the-variants.{Resting, Ready, Waiting}
 use Rattle.model.specs.declared.Row.{Row}
 use Rattle.model.specs.declared.Move.{Move}
-use Rattle.model.specs.Kinds.{cells, words}
-use Rattle.model.specs.Records.{none, header, flagged, targetOf, label, labelOf, meterOf, kindOf, cellsAt, wordsAt}
-use Rattle.model.specs.Rows.{holdOf, hold, freshRow}
-use Rattle.model.specs.State.{Stage, idle, firstBarrier, copying, secondBarrier, thirdBarrier, stageOf, inHand, noMove, entry, State}
+use Rattle.model.specs.Arena.{cells, words, none, header, flagged, targetOf, label, labelOf, meterOf, kindOf, cellsAt, wordsAt}
+use Rattle.model.specs.Rows.{holdOf, hold, freshRow, FourHolds}
+use Rattle.model.specs.State.{Stage, idle, firstBarrier, copying, secondBarrier, thirdBarrier, stageOf, inHand, noMove, entry, State, Sizes}
 use Rattle.model.specs.Choice.{every}
 use Rattle.model.specs.Rules.{isEarly, early as early-stage, late as late-stage, covers, flagUp}
 use Rattle.model.proofs.Choice.{same-or-not}
@@ -26,7 +25,6 @@ use Rattle.model.proofs.Readings.{Sound, NumbersAt, HeaderRight, own-header, fl
 use Rattle.model.proofs.Readings.{AccessRight, PhaseRight, RowRight, SwapsAt, Owing, owed-words, waiting-owes, says-flag}
 use Rattle.model.proofs.Covers.{record-in, record-is, covers-in, covers-is, otherOver, other-early, other-late, other-by}
 use Rattle.model.proofs.Fresh.{fresh-row, fresh-swaps}
-use Rattle.model.proofs.Sizes.{Sizes, FourHolds}
 use Rattle.demands.specs.Log.{Pending, noAccess, accessTo, Client, Account}
 use Rattle.demands.proofs.Lists.{getD-in}
 use Rattle.demands.proofs.Owners.{other, Owns}

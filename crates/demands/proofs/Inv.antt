@@ -12,12 +12,10 @@ use Rattle.model.specs.declared.Phase.the-variants.{Resting, Ready, Waiting}
 use Rattle.model.specs.declared.Row.{Row}
 use Rattle.model.specs.declared.Move.{Move}
 use Rattle.model.specs.Choice.{one}
-use Rattle.model.specs.Kinds.{cells, words, payload}
-use Rattle.model.specs.Records.{none, word, header, plain, flagged, label, labelOf}
+use Rattle.model.specs.Arena.{cells, words, payload, none, word, header, plain, flagged, label, labelOf, IsMap}
 use Rattle.model.specs.Rows.{holdOf, wordOf, hold, freshRow}
 use Rattle.model.specs.State.{Stage, idle, firstBarrier, copying, secondBarrier, thirdBarrier, stageOf, noMove, entry, State}
 use Rattle.model.specs.Rules.{isEarly}
-use Rattle.model.proofs.CellMap.{IsMap}
 use Rattle.demands.specs.Log.{noAccess, accessTo, Client, Account}
 use Rattle.demands.proofs.Stages.{Idle, First, Early, Late}
 use Rattle.demands.proofs.Owners.{other, Owns, Mapped}

@@ -2,11 +2,10 @@
 -- Assumes nothing.
 use mathlib.Core.Path.{_≡_}
 use mathlib.Core.List.{List}
-use Rattle.model.specs.State.{State}
+use Rattle.model.specs.State.{State, Sizes}
 use Rattle.model.specs.Steps.{Step, nameOf, act}
 use Rattle.model.specs.Rules.{firstBroken}
 use Rattle.model.proofs.Readings.{sound-of, sound-test}
-use Rattle.model.proofs.Sizes.{Sizes}
 use Rattle.demands.specs.Log.{Account, told, after, log, said}
 use Rattle.demands.proofs.Inv.{Inv}
 use Rattle.demands.proofs.Always.{act-inv, always}

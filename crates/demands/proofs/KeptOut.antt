@@ -5,15 +5,10 @@ use Prim.Native.Nat.{ℕ}
 use native.Mathlib.Omega.{arith}
 use lib.ListN.{getD}
 use Rattle.model.specs.declared.Answer.the-variants.{Refused, Admitted}
-use Rattle.model.specs.Kinds.{kindTable, ofKind}
-use Rattle.model.specs.Records.{none, word, laid}
-use Rattle.model.specs.CellMap.{bit, withBit, used, put, putRun, freeCells, runAt, lowestFrom, lowestRun}
-use Rattle.model.specs.State.{State, rise}
-use Rattle.model.specs.Answers.{Outcome, number}
-use Rattle.model.specs.Fresh.{fresh}
+use Rattle.model.specs.Arena.{kindTable, ofKind, none, word, laid, bit, withBit, used, put, putRun, freeCells, runAt, lowestFrom, lowestRun}
+use Rattle.model.specs.State.{State, rise, Outcome, number, fresh}
 use Rattle.model.specs.KeeperSteps.{moveOf, barrier, replicaWord, copyWord}
-use Rattle.model.specs.Steps.{Step, step, act}
-use Rattle.model.specs.Calls.{stepCall}
+use Rattle.model.specs.Steps.{Step, step, act, stepCall}
 use Rattle.demands.specs.Log.{Program, after}
 use Rattle.demands.specs.Promises.{reached}
 use Rattle.demands.specs.KeptOut.{Meets, OneOutcome, RefusesEverything, AnswersAlike, TouchesNothing, aboutToCopy, CopiesAtOnce}

@@ -5,8 +5,7 @@ use Prim.Native.Nat.{_≤_}
 use native.Mathlib.Omega.{arith}
 use Rattle.model.specs.declared.Answer.{Answer}
 use Rattle.model.specs.declared.Row.{Row}
-use Rattle.model.specs.State.{State}
-use Rattle.model.specs.Answers.{number, Outcome}
+use Rattle.model.specs.State.{State, number, Outcome}
 use Rattle.model.specs.Steps.{Step, act}
 use Rattle.demands.specs.Log.{after, log, said}
 use Rattle.demands.proofs.Did.{Turn, handles, readies, waits-on, swaps, ends, Did, refuses, stays, keeps, acts, Finished, did}

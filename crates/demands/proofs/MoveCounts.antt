@@ -11,9 +11,8 @@ use Rattle.model.specs.declared.Answer.{Answer}
 use Rattle.model.specs.declared.Answer.the-variants.{Refused, Admitted, BarrierOpen, Done}
 use Rattle.model.specs.declared.Move.{Move}
 use Rattle.model.specs.Choice.{_and_}
-use Rattle.model.specs.Kinds.{words}
-use Rattle.model.specs.State.{Stage, idle, firstBarrier, copying, secondBarrier, thirdBarrier, stageOf, inHand, State}
-use Rattle.model.specs.Answers.{number, Outcome}
+use Rattle.model.specs.Arena.{words}
+use Rattle.model.specs.State.{Stage, idle, firstBarrier, copying, secondBarrier, thirdBarrier, stageOf, inHand, State, number, Outcome}
 use Rattle.model.specs.Steps.{Step, act}
 use Rattle.model.proofs.Choice.{by-test, and-parts}
 use Rattle.demands.specs.Log.{line, Log, Account, after, log, said, answered, workingSteps, lastMoved}

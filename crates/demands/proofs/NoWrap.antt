@@ -6,8 +6,7 @@ use lib.ListN.{length, getD}
 use Rattle.model.specs.declared.Answer.{Answer}
 use Rattle.model.specs.declared.Row.{Row}
 use Rattle.model.specs.Rows.{freshRow}
-use Rattle.model.specs.State.{State}
-use Rattle.model.specs.Answers.{Outcome}
+use Rattle.model.specs.State.{State, Outcome}
 use Rattle.model.specs.Steps.{Step}
 use Rattle.model.proofs.Readings.{sound-of}
 use Rattle.demands.specs.Promises.{NoneFalls, NoCountWraps}

@@ -8,10 +8,9 @@ use native.Mathlib.Omega.{arith}
 use lib.Dec.{eqb, ltb, leb}
 use borrow.Author.Tests.{eqb-true, eqb-false, ne-eqb, leb-true, leb-false, ltb-true, ltb-false}
 use Rattle.model.specs.Choice.{pick}
-use Rattle.model.specs.Records.{none}
-use Rattle.model.specs.CellMap.{used, putRun}
+use Rattle.model.specs.Arena.{none, used, putRun, IsMap}
 use Rattle.model.proofs.Choice.{by-test, order}
-use Rattle.model.proofs.CellMap.{IsMap, FreeRun, used-run, used-run-other}
+use Rattle.model.proofs.CellMap.{FreeRun, used-run, used-run-other}
 
 abbrev pub other : ℕ
 other = 256

@@ -8,10 +8,8 @@ use native.Mathlib.Omega.{arith}
 use Rattle.model.specs.declared.Access.{Access}
 use Rattle.model.specs.declared.Access.the-variants.{Read, Write}
 use Rattle.model.specs.Rows.{isWrite, wordOf}
-use Rattle.model.specs.State.{State}
-use Rattle.model.specs.Answers.{Outcome, value}
-use Rattle.model.specs.Steps.{Step, act}
-use Rattle.model.specs.Calls.{stepCall}
+use Rattle.model.specs.State.{State, Outcome, value}
+use Rattle.model.specs.Steps.{Step, act, stepCall}
 use Rattle.model.proofs.Choice.{clash}
 use Rattle.demands.specs.Log.{Line, line, Log, Program, reachedBy, historyBy, after, log, Pending, accessTo, Account, said}
 use Rattle.demands.specs.Promises.{reached, history, EachLine, LastWrite, ReadRight, AccessPrice, MovePrice, Demand2, Demand3}

@@ -10,9 +10,7 @@ use lib.ListN.{getD, set, length-set}
 use lib.Seq.{getD-set-other}
 use borrow.Author.Tests.{eqb-false, ne-eqb}
 use Rattle.model.specs.declared.Move.{Move}
-use Rattle.model.specs.Kinds.{cells}
-use Rattle.model.specs.Records.{none}
-use Rattle.model.specs.CellMap.{putRun}
+use Rattle.model.specs.Arena.{cells, none, putRun}
 use Rattle.model.specs.Rows.{hold, freshRow}
 use Rattle.model.specs.State.{entry, State}
 use Rattle.model.specs.Refusals.{holdsCell}
@@ -23,8 +21,7 @@ use Rattle.demands.specs.Log.{Account}
 use Rattle.demands.proofs.Stages.{Idle, idle-of, idle-early, idle-late}
 use Rattle.demands.proofs.Lists.{getD-in, set-cases, any-get}
 use Rattle.demands.proofs.Owners.{repaint, repaint-cases, owns-keep, mapped-run}
-use Rattle.demands.proofs.Inv.{HoldOK, empty, here, was, EntryOK, Sides, early}
-use Rattle.demands.proofs.Inv.{late, Block, in-entry, in-other, Core, Inv}
+use Rattle.demands.proofs.Inv.{HoldOK, empty, here, was, EntryOK, Sides, early, late, Block, in-entry, in-other, Core, Inv}
 use Rattle.demands.proofs.Blocks.{entry-range, held-kind}
 use Rattle.demands.proofs.Entries.{carry-entry}
 use Rattle.demands.proofs.Keeping.{Keeps, keeps}

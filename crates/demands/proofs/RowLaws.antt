@@ -14,7 +14,7 @@ use Rattle.model.specs.declared.Phase.the-variants.{Resting, Ready}
 use Rattle.model.specs.declared.Row.{Row}
 use Rattle.model.specs.declared.Move.{Move}
 use Rattle.model.specs.Choice.{one}
-use Rattle.model.specs.Records.{none, header}
+use Rattle.model.specs.Arena.{none, header}
 use Rattle.model.specs.Rows.{holdOf, busy, hold, freshRow, withPassed, cleared, clearMarks, hasPassed, allPassed}
 use Rattle.model.specs.State.{entry, State, withTable, withRow}
 use Rattle.model.specs.Steps.{Step, ownRow}
@@ -22,8 +22,8 @@ use Rattle.model.proofs.Choice.{clash}
 use Rattle.demands.specs.Log.{noAccess, Client, Account, newClient, clientOf, withClient}
 use Rattle.demands.proofs.Lists.{set-cases, set-both, all-get}
 use Rattle.demands.proofs.Blocks.{side-lt}
-use Rattle.demands.proofs.Inv.{Flag, HoldOK, empty, here, was, Place, at-entry, at-hold, Asked, ReadyOK, WaitingOK, PhaseOK}
-use Rattle.demands.proofs.Inv.{rests, ready, waits, Detached, RowOK, late, Rows, Inv}
+use Rattle.demands.proofs.Inv.{Flag, HoldOK, empty, here, was, Place, at-entry, at-hold, Asked, ReadyOK, WaitingOK, PhaseOK, rests}
+use Rattle.demands.proofs.Inv.{ready, waits, Detached, RowOK, late, Rows, Inv}
 
 -- what the invariant says, in state s, of row r and client q, and of the phase of the row whose step it is
 abbrev pub oldHeader : State → ℕ

@@ -6,13 +6,11 @@ use mathlib.Core.Bool.{true, false}
 use mathlib.Core.List.{List, [], _∷_}
 use Prim.Native.Nat.{ℕ}
 use Rattle.model.specs.declared.Answer.the-variants.{Refused, Done}
-use Rattle.model.specs.State.{State}
-use Rattle.model.specs.Answers.{Outcome}
-use Rattle.model.specs.Steps.{Step, act}
+use Rattle.model.specs.State.{State, Outcome, Sizes}
+use Rattle.model.specs.Steps.{Step, act, wrongSize, stepCall, Ran, ran, then, oneByOne, stepsFrom, stepsOf, runSizes, runCall}
 use Rattle.model.specs.Rules.{firstBroken}
-use Rattle.model.specs.Calls.{wrongSize, stepCall, Ran, ran, then, oneByOne, stepsFrom, stepsOf, runSizes, runCall}
 use Rattle.model.proofs.Choice.{by-test}
-use Rattle.model.proofs.Sizes.{Sizes, right-size}
+use Rattle.model.proofs.Sizes.{right-size}
 use Rattle.model.proofs.Calls.{sound-passes, unsound-fails, step-sound}
 use Rattle.demands.specs.Log.{after}
 use Rattle.demands.proofs.Kept.{sound-kept, sizes-kept, after-sound, after-sizes}

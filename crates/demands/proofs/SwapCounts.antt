@@ -12,10 +12,9 @@ use Rattle.model.specs.declared.Answer.{Answer}
 use Rattle.model.specs.declared.Answer.the-variants.{Refused, BarrierOpen}
 use Rattle.model.specs.declared.Row.{Row}
 use Rattle.model.specs.Choice.{total}
-use Rattle.model.specs.Records.{flagged}
+use Rattle.model.specs.Arena.{flagged}
 use Rattle.model.specs.Rows.{swapsOf, freshRow, clearMarks}
-use Rattle.model.specs.State.{State}
-use Rattle.model.specs.Answers.{number, Outcome}
+use Rattle.model.specs.State.{State, number, Outcome}
 use Rattle.model.specs.Steps.{Step}
 use Rattle.model.proofs.Choice.{same-or-not}
 use Rattle.model.proofs.Says.{getD-fresh}

@@ -12,8 +12,7 @@ use borrow.Author.Tests.{eqb-true, eqb-false}
 use Rattle.model.specs.declared.Access.{Access}
 use Rattle.model.specs.declared.Move.{Move}
 use Rattle.model.specs.declared.Stepped.{Stepped}
-use Rattle.model.specs.Kinds.{cells}
-use Rattle.model.specs.Records.{place, word, header, plain, flagged, targetOf}
+use Rattle.model.specs.Arena.{cells, place, word, header, plain, flagged, targetOf}
 use Rattle.model.specs.Rows.{holdOf, freshRow}
 use Rattle.model.specs.State.{State, entry, rise}
 use Rattle.model.specs.ClientSteps.{swapped, swap}

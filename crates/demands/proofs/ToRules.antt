@@ -13,10 +13,9 @@ use Rattle.model.specs.declared.Phase.{Phase}
 use Rattle.model.specs.declared.Row.{Row}
 use Rattle.model.specs.declared.Move.{Move}
 use Rattle.model.specs.Choice.{total}
-use Rattle.model.specs.Kinds.{cells, words}
-use Rattle.model.specs.Records.{none, header, targetOf, label, cellsAt, wordsAt}
-use Rattle.model.specs.Rows.{holdOf, hold, freshRow}
-use Rattle.model.specs.State.{Stage, idle, firstBarrier, copying, secondBarrier, thirdBarrier, stageOf, inHand, noMove, entry, State}
+use Rattle.model.specs.Arena.{cells, words, none, header, targetOf, label, cellsAt, wordsAt}
+use Rattle.model.specs.Rows.{holdOf, hold, freshRow, FourHolds}
+use Rattle.model.specs.State.{Stage, idle, firstBarrier, copying, secondBarrier, thirdBarrier, stageOf, inHand, noMove, entry, State, Sizes}
 use Rattle.model.specs.Rules.{early as early-stage, late as late-stage, covers, recordCovers, flagUp}
 use Rattle.model.proofs.Choice.{by-test, clash, order}
 use Rattle.model.proofs.Says.{says-eq, says-not, at-all}
@@ -25,7 +24,6 @@ use Rattle.model.proofs.Readings.{HoldRight, hold-empty, hold-present, hold-old
 use Rattle.model.proofs.Readings.{says-flag, Sound}
 use Rattle.model.proofs.Covers.{total-zero, total-one, covers-in, covers-out, record-in, record-out, otherOver, other-early, other-late}
 use Rattle.model.proofs.Covers.{other-by, blocks-are}
-use Rattle.model.proofs.Sizes.{Sizes, FourHolds}
 use Rattle.demands.specs.Log.{Client, Account}
 use Rattle.demands.proofs.Lists.{getD-in}
 use Rattle.demands.proofs.Owners.{other}

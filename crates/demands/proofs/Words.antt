@@ -6,7 +6,7 @@ use Prim.Native.Nat.{ℕ, _+_, _*_, _/_, _≤_, _<_}
 use native.Mathlib.Omega.{arith}
 use lib.ListN.{length, set}
 use lib.Seq.{getD-set-same, getD-set-other}
-use Rattle.model.specs.Records.{start, place, word, laid}
+use Rattle.model.specs.Arena.{start, place, word, laid}
 use Rattle.model.proofs.Records.{laid-out}
 use Rattle.demands.proofs.Owners.{Owns}
 

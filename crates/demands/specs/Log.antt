@@ -8,13 +8,11 @@ use Rattle.model.specs.declared.Answer.{Answer}
 use Rattle.model.specs.declared.Answer.the-variants.{Refused, Admitted, Begun, BarrierOpen, CopyingStarts, Copied, Committed, CalledOff}
 use Rattle.model.specs.declared.Answer.the-variants.{GivenBack, Done, ReadyAt, WaitsOn, SwapWon, SwapLost, Got, Written}
 use Rattle.model.specs.Choice.{pick, _and_, one, total}
-use Rattle.model.specs.Records.{none}
+use Rattle.model.specs.Arena.{none}
 use Rattle.model.specs.Rows.{holdOf}
-use Rattle.model.specs.State.{State}
-use Rattle.model.specs.Answers.{number, Outcome}
-use Rattle.model.specs.Fresh.{fresh}
-use Rattle.model.specs.Steps.{Step, Name, ADMIT, RETIRE, BEGIN, ADVANCE, ATTACH, DETACH, OPEN, DROP, READ, WRITE, GO, REST, UNKNOWN}
-use Rattle.model.specs.Steps.{NOBODY, nameOf, act}
+use Rattle.model.specs.State.{State, number, Outcome, fresh}
+use Rattle.model.specs.Steps.{Step, Name, ADMIT, RETIRE, BEGIN, ADVANCE, ATTACH, DETACH, OPEN, DROP, READ, WRITE, GO, REST, UNKNOWN, NOBODY}
+use Rattle.model.specs.Steps.{nameOf, act}
 
 -- a line: a step and its answer. The last line stands first.
 pub record Line : Type 0 where

@@ -6,16 +6,13 @@ use mathlib.Core.List.{List, [], _∷_}
 use Prim.Native.Nat.{ℕ, suc, _+_, _*_, _≤_}
 use lib.ListN.{getD}
 use Rattle.model.specs.declared.Access.the-variants.{Read, Write}
-use Rattle.model.specs.Kinds.{words}
+use Rattle.model.specs.Arena.{words}
 use Rattle.model.specs.Rows.{freshRow}
-use Rattle.model.specs.State.{State}
-use Rattle.model.specs.Answers.{number, value}
-use Rattle.model.specs.Steps.{Step, act}
+use Rattle.model.specs.State.{State, number, value, Sizes}
+use Rattle.model.specs.Steps.{Step, act, stepCall, runCall, runSizes, oneByOne, stepsOf}
 use Rattle.model.specs.Rules.{firstBroken}
-use Rattle.model.specs.Calls.{stepCall, runCall, runSizes, oneByOne, stepsOf}
-use Rattle.model.proofs.Sizes.{Sizes}
-use Rattle.demands.specs.Log.{Line, Log, reachedBy, historyBy, Pending, noAccess, accessTo, Account, clientOf, said}
-use Rattle.demands.specs.Log.{answered, answeredTo, workingSteps, lastMoved, ownAnswers}
+use Rattle.demands.specs.Log.{Line, Log, reachedBy, historyBy, Pending, noAccess, accessTo, Account, clientOf, said, answered}
+use Rattle.demands.specs.Log.{answeredTo, workingSteps, lastMoved, ownAnswers}
 
 -- by the library's step: the state that some steps reach from fresh, and their history, the last step first
 abbrev pub reached : List Step → State

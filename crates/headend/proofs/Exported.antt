@@ -12,16 +12,15 @@ use Rattle.model.specs.declared.Answer.{Answer}
 use Rattle.model.specs.declared.Answer.the-variants.{Refused}
 use Rattle.model.specs.Choice.{pick, _and_}
 use Rattle.model.proofs.Choice.{and-parts}
-use Rattle.model.specs.State.{State}
-use Rattle.model.specs.Answers.{Outcome}
-use Rattle.model.specs.Calls.{Ran}
+use Rattle.model.specs.State.{State, Outcome}
+use Rattle.model.specs.Steps.{Ran}
 use Rattle.table.specs.Words.{tableWords}
 use Rattle.wire.specs.Bytes.{allBytes}
 use Rattle.archive.specs.declared.Reply.{Reply}
 use Rattle.archive.specs.Does.{isRefused, wordsAfter, CallDoes, RunDoes}
 use Rattle.headend.specs.Buffer.{stateIn, bytesIn, bytesOf}
-use Rattle.headend.specs.Exported.{coded, wrongBuffer, kept, called, exported, runBytesFit, runOn, ranBytes, runBytes}
-use Rattle.headend.specs.Exported.{CallGives, Finishes, RunGives}
+use Rattle.headend.specs.Exported.{coded, wrongBuffer, kept, called, exported, runBytesFit, runOn, ranBytes, runBytes, CallGives}
+use Rattle.headend.specs.Exported.{Finishes, RunGives}
 
 module _ (x : Answer) (before after : List ℕ) where
   pub kept-refused : isRefused x ≡ true → kept x before after ≡ before

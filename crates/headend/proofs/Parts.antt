@@ -4,7 +4,7 @@ use mathlib.Core.List.{List, [], _∷_, _++_, map, append-assoc}
 use Prim.Native.Nat.{ℕ, _+_, _*_}
 use native.Mathlib.Omega.{arith}
 use lib.ListN.{length, length-append}
-use Rattle.model.specs.Records.{laid}
+use Rattle.model.specs.Arena.{laid}
 use Rattle.model.proofs.Records.{laid-none}
 use Rattle.wire.specs.Bytes.{bytes, allBytes}
 use Rattle.wire.proofs.Bytes.{length-all, length-bytes, all-one}

@@ -8,10 +8,10 @@ use Prim.Native.Nat.{ℕ, _+_, _*_, _≤_, _<_}
 use native.Mathlib.Omega.{arith}
 use lib.ListN.{length, getD, take, drop}
 use lib.Seq.{take-add, take-all, drop-drop}
-use Rattle.model.specs.State.{State, state}
+use Rattle.model.specs.State.{State, state, Sizes}
 use Rattle.model.specs.Rules.{firstBroken}
-use Rattle.model.proofs.Says.{All, all-get}
-use Rattle.model.proofs.Sizes.{Sizes}
+use Rattle.model.specs.Choice.{All}
+use Rattle.model.proofs.Says.{all-get}
 use Rattle.model.proofs.Readings.{says-R6, sound-of}
 use Rattle.table.specs.Words.{tableWords, isRow, rowsOf}
 use Rattle.table.proofs.FourHolds.{four-of-all}

@@ -3,7 +3,7 @@
 ghost use mathlib.Core.Path.{_≡_};
 ghost use Prim.Native.Nat.{_*_};
 ghost use lib.ListN.{length};
-ghost use Rattle.model.specs.Records.{laid};
+ghost use Rattle.model.specs.Arena.{laid};
 ghost use Rattle.model.specs.Steps.{step};
 ghost use Rattle.wire.specs.Bytes.{allBytes};
 ghost use Rattle.archive.specs.Does.{meant, isRefused};

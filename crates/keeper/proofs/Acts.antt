@@ -7,9 +7,7 @@ use Prim.Native.Nat.{ℕ}
 use lib.Dec.{eqb}
 use Rattle.model.specs.declared.Answer.the-variants.{BarrierOpen}
 use Rattle.model.specs.Choice.{pick, any}
-use Rattle.model.specs.Kinds.{cells}
-use Rattle.model.specs.Records.{header, start, flagged, cellsAt, wordsAt, newRecord, laid}
-use Rattle.model.specs.CellMap.{lowestRun}
+use Rattle.model.specs.Arena.{cells, header, start, flagged, cellsAt, wordsAt, newRecord, laid, lowestRun}
 use Rattle.model.specs.Rows.{allPassed}
 use Rattle.model.specs.State.{Stage, idle, firstBarrier, copying, secondBarrier, thirdBarrier, stageOf, inHand, rise, entry, State}
 use Rattle.model.specs.KeeperSteps.{moveOf, barrier, startCopying, copied, copyWord, settle, advance}
@@ -20,8 +18,8 @@ use Rattle.model.proofs.Refusals.{refuse-map}
 use Rattle.keeper.specs.declared.Moved.{Moved}
 use Rattle.keeper.specs.declared.Kept.{Kept}
 use Rattle.keeper.specs.Kept.{refusedKept, stays, openFirst, copyMove, commitKept, callOffKept, settleKept, giveBackKept, onMove}
-use Rattle.keeper.specs.Kept.{advanceKept, retiredKept, retireStep, begunKept, beginStep, admittedKept, admitStep, admitArena}
-use Rattle.keeper.specs.Kept.{placed, placedWith}
+use Rattle.keeper.specs.Kept.{advanceKept, retiredKept, retireStep, begunKept, beginStep, admittedKept, admitStep, admitArena, placed}
+use Rattle.keeper.specs.Kept.{placedWith}
 
 -- a step by its name
 act-named : (s : State) (t : Step) (x : Name) → nameOf t ≡ x → act s t ≡ refuse (refusals x s t) (refused s) (effect x s t)

@@ -8,9 +8,7 @@ use lib.Dec.{eqb, ltb, leb}
 use borrow.Author.Tests.{eq-eqb, ne-eqb, le-leb, lt-leb, ltb-false}
 use Rattle.model.specs.declared.Control.{Control}
 use Rattle.model.specs.Choice.{pick}
-use Rattle.model.specs.Kinds.{cells}
-use Rattle.model.specs.Records.{none, cellsAt}
-use Rattle.model.specs.CellMap.{lowestRun}
+use Rattle.model.specs.Arena.{cells, none, cellsAt, lowestRun}
 use Rattle.model.specs.State.{entry}
 use Rattle.model.specs.Refusals.{_if_, refuse, isNone, admitRefusals}
 use Rattle.model.proofs.Refusals.{given, refused-by-given, accepted-by-given}

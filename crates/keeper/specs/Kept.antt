@@ -13,13 +13,10 @@ use Rattle.model.specs.declared.Answer.{Answer}
 use Rattle.model.specs.declared.Answer.the-variants.{Refused, Admitted, Begun, BarrierOpen, CopyingStarts, Copied, Committed, CalledOff}
 use Rattle.model.specs.declared.Answer.the-variants.{GivenBack, Done}
 use Rattle.model.specs.Choice.{pick}
-use Rattle.model.specs.Kinds.{cells}
-use Rattle.model.specs.Records.{none, start, place, header, plain, flagged, cellsAt, wordsAt, newRecord, laid}
-use Rattle.model.specs.CellMap.{lowestRun}
+use Rattle.model.specs.Arena.{cells, none, start, place, header, plain, flagged, cellsAt, wordsAt, newRecord, laid, lowestRun}
 use Rattle.model.specs.Rows.{clearMarks}
-use Rattle.model.specs.State.{State, state, Stage, idle, firstBarrier, copying, secondBarrier, thirdBarrier, stageOf, inHand}
-use Rattle.model.specs.State.{stageNumber, noMove, withStage, withMove, withBegun, withCommitted, withAborted, rise, entry}
-use Rattle.model.specs.Answers.{Outcome, outcome}
+use Rattle.model.specs.State.{State, state, Stage, idle, firstBarrier, copying, secondBarrier, thirdBarrier, stageOf, inHand, stageNumber}
+use Rattle.model.specs.State.{noMove, withStage, withMove, withBegun, withCommitted, withAborted, rise, entry, Outcome, outcome}
 use Rattle.model.specs.ClientSteps.{changed}
 use Rattle.model.specs.KeeperSteps.{taken, freed, withEntry, firstMove, replicaWord}
 use Rattle.model.specs.Refusals.{Refusal, _if_, refuse, badMeter, badKind, isNone, admitRefusals, beginRefusals}

@@ -2,14 +2,13 @@
 // Knows nothing of rows: whether all have passed, and whether some row holds a record, is told; the caller clears the marks.
 ghost use mathlib.Core.Path.{_≡_};
 ghost use lib.ListN.{length};
-ghost use Rattle.model.specs.CellMap.{putRun};
-ghost use Rattle.model.specs.Records.{plain, flagged, cellsAt};
+ghost use Rattle.model.specs.Arena.{putRun, plain, flagged, cellsAt};
 ghost use Rattle.model.specs.State.{stageOf, inHand, rise};
 ghost use Rattle.model.specs.KeeperSteps.{replicaWord};
 ghost use Rattle.model.proofs.Refusals.{given};
 ghost use Rattle.keeper.specs.Kept.{refusedKept, stays, openFirst, oneCopied, copyMove, advanceMove, commitKept, callOffKept};
-ghost use Rattle.keeper.specs.Kept.{settleKept, giveBackKept, closing, closeKept, recordRefusals, newRefusals, retireStep};
-ghost use Rattle.keeper.specs.Kept.{beginStep, admitStep, admitArena};
+ghost use Rattle.keeper.specs.Kept.{settleKept, giveBackKept, closing, closeKept, recordRefusals, newRefusals, retireStep, beginStep};
+ghost use Rattle.keeper.specs.Kept.{admitStep, admitArena};
 use directory::entry_of;
 use directory::set_entry;
 use model::Answer;

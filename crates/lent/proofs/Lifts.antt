@@ -10,10 +10,8 @@ use lib.ListN.{length}
 use borrow.Author.Tests.{eqb-true}
 use Rattle.model.specs.declared.Row.{Row}
 use Rattle.model.specs.declared.Control.{Control}
-use Rattle.model.specs.State.{State, state}
-use Rattle.model.specs.Answers.{Outcome}
-use Rattle.model.specs.Steps.{refused}
-use Rattle.model.specs.Calls.{wrongSize, runCall, Ran}
+use Rattle.model.specs.State.{State, state, Outcome}
+use Rattle.model.specs.Steps.{refused, wrongSize, runCall, Ran}
 use Rattle.rows.specs.declared.Eight.{Eight}
 use Rattle.rows.specs.Eight.{rowsIn, taken, putBack}
 use Rattle.rows.proofs.Lists.{eight-rows, taken-eight, put-eight, put-other}

@@ -2,8 +2,7 @@
 // Thin: the rows are taken out by value, `byrow` works on them, and they are put back.
 ghost use mathlib.Core.Path.{_≡_};
 ghost use Rattle.model.specs.State.{state};
-ghost use Rattle.model.specs.Steps.{step};
-ghost use Rattle.model.specs.Calls.{freshCall, stepCall, runCall, fillCall, auditCall};
+ghost use Rattle.model.specs.Steps.{step, freshCall, stepCall, runCall, fillCall, auditCall};
 ghost use Rattle.rows.specs.Eight.{putBack};
 ghost use Rattle.byrow.specs.Does.{Does, Runs, Looks};
 use archive::Reply;

@@ -13,16 +13,15 @@ use Rattle.model.specs.declared.Access.{Access}
 use Rattle.model.specs.declared.Access.the-variants.{Read, Write}
 use Rattle.model.specs.declared.Stepped.{Stepped}
 use Rattle.model.specs.Choice.{_and_, _or_}
-use Rattle.model.specs.Records.{header, flagged, flagOf, wordsAt}
+use Rattle.model.specs.Arena.{header, flagged, flagOf, wordsAt}
 use Rattle.model.specs.Rows.{hold, freshRow, allPassed}
 use Rattle.model.specs.State.{Stage, idle, firstBarrier, copying, secondBarrier, thirdBarrier, stageOf, rise, State, withTable}
-use Rattle.model.specs.Answers.{Outcome, number, value}
+use Rattle.model.specs.State.{Outcome, number, value}
 use Rattle.model.specs.ClientSteps.{atHeader, swap, go}
 use Rattle.model.specs.KeeperSteps.{moveOf, barrier, copyWord, settle, advance}
 use Rattle.model.specs.Refusals.{Refusal, _if_}
 use Rattle.model.specs.Steps.{Step, Name, ADMIT, RETIRE, BEGIN, ADVANCE, ATTACH, DETACH, OPEN, DROP, READ, WRITE, GO, REST, UNKNOWN}
-use Rattle.model.specs.Steps.{NOBODY, nameOf, ownRow, seated, effect, refused, act}
-use Rattle.model.specs.Calls.{wrongSize, unsound, stepCall}
+use Rattle.model.specs.Steps.{NOBODY, nameOf, ownRow, seated, effect, refused, act, wrongSize, unsound, stepCall}
 use Rattle.model.proofs.Choice.{by-test}
 use Rattle.model.proofs.Refusals.{Each, numbers, each, by-refusals}
 use Rattle.model.proofs.Tabled.{table, act-tabled}

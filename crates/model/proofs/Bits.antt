@@ -10,7 +10,7 @@ use lib.Pow.{pow-pos, pow-mono, split, shr-shr, mod-mod-pow, field, low, high, s
 use lib.Count.{trailingZeros, under}
 use lib.Bits.{bitAnd, bitOr, and-shr, or-shr, and-step, or-step}
 use Rattle.model.proofs.Choice.{sides}
-use Rattle.model.specs.CellMap.{bit, withBit}
+use Rattle.model.specs.Arena.{bit, withBit}
 
 pub bit-lt : (w k : ℕ) → bit w k < 2
 unfolding bit

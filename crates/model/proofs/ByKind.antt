@@ -2,7 +2,7 @@
 use mathlib.Core.Path.{_≡_, refl}
 use Prim.Native.Nat.{ℕ, zero, suc, _+_, _-_, _*_, _^_, _≤_, _<_}
 use native.Mathlib.Omega.{arith}
-use Rattle.model.specs.Kinds.{kindTable, ofKind, cells, words, payload}
+use Rattle.model.specs.Arena.{kindTable, ofKind, cells, words, payload}
 
 pub record Regular (k : ℕ) : Type 0 where
   pub words-are-cells : words k ≡ 8 * cells k

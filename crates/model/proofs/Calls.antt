@@ -8,14 +8,11 @@ use Prim.Native.Nat.{ℕ, _*_, _/_, _%_, _≤_}
 use native.Mathlib.Omega.{arith}
 use lib.ListN.{length}
 use Rattle.model.specs.declared.Answer.the-variants.{Done}
-use Rattle.model.specs.CellMap.{fill}
-use Rattle.model.specs.State.{State}
-use Rattle.model.specs.Answers.{outcome, number, value}
-use Rattle.model.specs.Fresh.{fresh}
-use Rattle.model.specs.Steps.{Step, step, refused, act}
+use Rattle.model.specs.Arena.{fill}
+use Rattle.model.specs.State.{State, outcome, number, value, fresh}
+use Rattle.model.specs.Steps.{Step, step, refused, act, wrongSize, unsound, freshCall, auditCall, fillCall, stepCall, ran, oneByOne}
+use Rattle.model.specs.Steps.{stepsFrom, stepsOf, runSizes}
 use Rattle.model.specs.Rules.{firstBroken}
-use Rattle.model.specs.Calls.{wrongSize, unsound, freshCall, auditCall, fillCall, stepCall, ran, oneByOne, stepsFrom, stepsOf}
-use Rattle.model.specs.Calls.{runSizes}
 use Rattle.model.proofs.Says.{Says, says-as, says-eq, says-le, says-not, says-and}
 
 -- a state that breaks no rule is not refused by 2

@@ -13,15 +13,9 @@ use lib.ListN.{length, getD, set, replicate, length-set}
 use lib.Seq.{getD-set-same, getD-set-other, set-out, ext-getD}
 use Rattle.model.specs.Choice.{pick, _and_}
 use Rattle.model.proofs.Choice.{order, same-or-not, clash, by-test, and-parts, and-true}
-use Rattle.model.specs.Records.{none}
+use Rattle.model.specs.Arena.{none, IsMap, bit, withBit, used, put, putRun, freeCells, runAt, lowestFrom, lowestRun}
 use Rattle.model.proofs.Says.{getD-fresh}
 use Rattle.model.proofs.Bits.{bit-lt, with-same, with-other, with-lt, bits-ext}
-use Rattle.model.specs.CellMap.{bit, withBit, used, put, putRun, freeCells, runAt, lowestFrom, lowestRun}
-
--- sixteen words of 64 bits: what every value of type [u64; 16] is
-pub record IsMap (m : List ℕ) : Type 0 where
-  pub sixteen : length m ≡ 16
-  pub words : (i : ℕ) → getD m i 0 < 2 ^ 64
 
 pub used-lt : (m : List ℕ) (c : ℕ) → used m c < 2
 unfolding used

@@ -9,7 +9,7 @@ use lib.ListN.{length, getD}
 use borrow.Author.Tests.{eqb-true, eqb-false, not-true, not-false}
 use Rattle.model.specs.declared.Move.{Move}
 use Rattle.model.specs.Choice.{_and_, total}
-use Rattle.model.specs.Records.{none, cellsAt}
+use Rattle.model.specs.Arena.{none, cellsAt}
 use Rattle.model.specs.State.{Stage, idle, firstBarrier, copying, secondBarrier, thirdBarrier, stageOf}
 use Rattle.model.specs.Rules.{isCell, early, late, covers, recordCovers, otherCovers, blocksOver}
 use Rattle.model.proofs.Choice.{by-test, same-or-not}

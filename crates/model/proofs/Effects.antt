@@ -11,9 +11,8 @@ use borrow.Author.Tests.{eq-eqb, ne-eqb}
 use Rattle.model.specs.declared.Access.{Access}
 use Rattle.model.specs.declared.Phase.the-variants.{Ready}
 use Rattle.model.specs.declared.Row.{Row}
-use Rattle.model.specs.Records.{place, word, header, plain, flagged, targetOf, wordsAt}
-use Rattle.model.specs.State.{rise, State}
-use Rattle.model.specs.Answers.{told, Outcome}
+use Rattle.model.specs.Arena.{place, word, header, plain, flagged, targetOf, wordsAt}
+use Rattle.model.specs.State.{rise, State, told, Outcome}
 use Rattle.model.specs.ClientSteps.{swap, changed}
 use Rattle.model.specs.KeeperSteps.{admit, begin, moveOf, replicaWord, copyWord, commit}
 use Rattle.model.specs.Steps.{Step, step, Name, ADMIT, RETIRE, BEGIN, ADVANCE, ATTACH, DETACH, OPEN, DROP, READ, WRITE, GO, REST}

@@ -11,8 +11,7 @@ use lib.ListN.{length}
 use borrow.Author.Tests.{eqb-false, not-true}
 use Rattle.model.specs.declared.Move.{Move}
 use Rattle.model.specs.Choice.{pick, total}
-use Rattle.model.specs.Records.{none, cellsAt}
-use Rattle.model.specs.CellMap.{used, countUsed, fill}
+use Rattle.model.specs.Arena.{none, cellsAt, used, countUsed, fill}
 use Rattle.model.specs.State.{Stage, idle, firstBarrier, copying, secondBarrier, thirdBarrier, stageOf, inHand, entry, State}
 use Rattle.model.specs.Rules.{isCell, early, late, covers, recordCovers, otherCovers}
 use Rattle.model.proofs.Choice.{order}

@@ -9,10 +9,9 @@ use native.Mathlib.Omega.{arith}
 use lib.ListN.{getD, replicate, getD-replicate}
 use Rattle.model.specs.declared.Move.{Move}
 use Rattle.model.specs.Choice.{total}
-use Rattle.model.specs.Records.{none}
-use Rattle.model.specs.State.{noMove, entry}
+use Rattle.model.specs.Arena.{none}
+use Rattle.model.specs.State.{noMove, entry, fresh}
 use Rattle.model.specs.Rules.{recordCovers, blocksOver, flagUp, firstBroken}
-use Rattle.model.specs.Fresh.{fresh}
 use Rattle.model.specs.Rows.{freshRow}
 use Rattle.model.proofs.CellMap.{fresh-free}
 use Rattle.model.proofs.Says.{getD-fresh, all-replicate}

@@ -5,7 +5,7 @@ use Prim.Native.Nat.{ℕ, _+_, _*_, _/_, _%_}
 use native.Mathlib.Omega.{arith}
 use lib.Dec.{eqb}
 use borrow.Author.Tests.{eqb-true, eqb-false, ne-eqb}
-use Rattle.model.specs.Records.{plain, flagged, targetOf, flagOf}
+use Rattle.model.specs.Arena.{plain, flagged, targetOf, flagOf}
 use Rattle.model.proofs.Says.{says-as, says-eq, says-same}
 
 module _ (h c : ℕ) where

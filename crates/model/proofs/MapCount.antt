@@ -8,9 +8,9 @@ use native.Mathlib.Omega.{arith}
 use lib.ListN.{getD}
 use lib.Pow.{pow-pos, mod-pow-add}
 use lib.Count.{ones, ones-cat}
-use Rattle.model.specs.CellMap.{bit, used, put, putRun, countUsed, fill}
+use Rattle.model.specs.Arena.{bit, used, put, putRun, countUsed, fill, IsMap}
 use Rattle.model.proofs.Choice.{same-or-not}
-use Rattle.model.proofs.CellMap.{IsMap, used-at, used-lt, used-put, used-put-other, used-run-other, run-map}
+use Rattle.model.proofs.CellMap.{used-at, used-lt, used-put, used-put-other, used-run-other, run-map}
 
 -- a bit counts itself
 ones-bit : (r : ℕ) → r < 2 → ones r ≡ r

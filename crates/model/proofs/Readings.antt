@@ -12,9 +12,8 @@ use Rattle.model.specs.declared.Phase.{Phase}
 use Rattle.model.specs.declared.Phase.the-variants.{Resting, Ready, Waiting}
 use Rattle.model.specs.declared.Row.{Row}
 use Rattle.model.specs.declared.Move.{Move}
-use Rattle.model.specs.Choice.{pick, one}
-use Rattle.model.specs.Records.{none, header, plain, flagged, targetOf, label, meterOf, cellsAt, wordsAt, payloadAt}
-use Rattle.model.specs.CellMap.{used}
+use Rattle.model.specs.Choice.{pick, one, All}
+use Rattle.model.specs.Arena.{none, header, plain, flagged, targetOf, label, meterOf, cellsAt, wordsAt, payloadAt, used}
 use Rattle.model.specs.Rows.{holdOf, wordOf, busy, hold}
 use Rattle.model.specs.State.{Stage, idle, firstBarrier, copying, secondBarrier, thirdBarrier, stageOf, entry, State}
 use Rattle.model.specs.Rules.{isCell, isEarly, isLate, recordRight, R1, replicaRight, earlyRight, lateRight, R2, blocksOver}
@@ -22,7 +21,7 @@ use Rattle.model.specs.Rules.{cellRight, R3, headerRight, R4, numbersRig
 use Rattle.model.specs.Rules.{passedRight, rowRight, R6, R7, flagUp, waits, waitsElsewhere, swapsRight, R8, firstFalse, firstBroken}
 use Rattle.model.proofs.Choice.{clash, by-test}
 use Rattle.model.proofs.Says.{Says, says-eq, says-lt, says-le, says-is, says-isnt, says-holds, says-yes, says-as, says-not, says-and}
-use Rattle.model.proofs.Says.{says-or, says-when, says-every, All, Somewhere, says-all, says-none, says-any}
+use Rattle.model.proofs.Says.{says-or, says-when, says-every, Somewhere, says-all, says-none, says-any}
 
 abbrev pub Present : List ℕ → ℕ → Type 0
 Present dir m = entry dir m ≢ none

@@ -6,8 +6,7 @@ use Prim.Native.Nat.{ℕ, zero, suc, _+_, _*_, _≤_, _<_}
 use native.Mathlib.Nat.{zero-add, suc-add}
 use native.Mathlib.Omega.{arith}
 use lib.ListN.{length, getD, set, replicate, length-replicate, replicate-append-replicate}
-use Rattle.model.specs.Kinds.{cells, payload}
-use Rattle.model.specs.Records.{newRecord, laid}
+use Rattle.model.specs.Arena.{cells, payload, newRecord, laid}
 use Rattle.model.proofs.Says.{getD-fresh}
 use Rattle.model.proofs.ByKind.{Real, real}
 

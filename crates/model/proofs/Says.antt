@@ -10,7 +10,7 @@ use native.Mathlib.Numerals.{add-one}
 use lib.Dec.{T, eqb, ltb, leb}
 use lib.ListN.{length, getD, replicate}
 use borrow.Author.Tests.{eqb-true, ltb-true, leb-true, eq-eqb, lt-ltb, le-leb, not-true}
-use Rattle.model.specs.Choice.{_and_, _or_, _⇒_, one, every, all, any}
+use Rattle.model.specs.Choice.{_and_, _or_, _⇒_, one, every, all, any, All}
 use Rattle.model.proofs.Choice.{clash, and-true, same-or-not}
 
 pub record Says (b : Bool) (P : Type 0) : Type 0 where
@@ -81,11 +81,6 @@ says-every (suc n) f P h = says-as to (λ k. (k n (omega arith), λ x l. k x (om
   where
     to : P n × ((x : ℕ) → x < n → P x) → (x : ℕ) → x < suc n → P x
     to p x l = ⊎-elim (λ (e : x ≡ n). rw e (p .0)) (λ (e : x ≡ n → ⊥). p .1 x (omega arith)) (same-or-not x n)
-
--- P of each element, and of the one at an index
-abbrev pub All : {A : Type 0} → (A → Type 0) → List A → Type 0
-All P [] = Unit {0}
-All P (x ∷ l) = P x × All P l
 
 pub record Somewhere {A : Type 0} (P : A → Type 0) (d : A) (l : List A) : Type 0 where
   pub at : ℕ

@@ -1,28 +1,17 @@
--- What the code's types and its test of sizes say of a state, beside the rules: the lengths of its parts, and 64 bits in a word of the
--- map, 32 in a count. Assumes nothing.
+-- Fresh has the sizes of the code's types, and a state that has them is not refused by 1. Assumes nothing.
 use mathlib.Core.Path.{_≡_, refl}
 use mathlib.Core.Bool.{false}
 use Prim.Native.Nat.{_^_, _<_}
 use native.Mathlib.Omega.{arith}
 use lib.ListN.{length}
 use Rattle.model.specs.declared.Row.{Row}
-use Rattle.model.specs.State.{State}
-use Rattle.model.specs.Rows.{freshRow}
-use Rattle.model.specs.Fresh.{fresh}
-use Rattle.model.specs.Calls.{wrongSize}
-use Rattle.model.proofs.CellMap.{IsMap, fresh-map}
-use Rattle.model.proofs.Says.{All, all-replicate}
-
-abbrev pub FourHolds : Row → Type 0
-FourHolds r = length (r .holds) ≡ 4
-
-pub record Sizes (s : State) : Type 0 where
-  pub entries : length (s .control .dir) ≡ 256
-  pub map : IsMap (s .control .map)
-  pub begun : s .control .begun < 2 ^ 32
-  pub arena : length (s .arena) ≡ 8192
-  pub rows : length (s .table) ≡ 8
-  pub holds : All FourHolds (s .table)
+use Rattle.model.specs.State.{State, fresh, Sizes}
+use Rattle.model.specs.Rows.{freshRow, FourHolds}
+use Rattle.model.specs.Steps.{wrongSize}
+use Rattle.model.specs.Arena.{IsMap}
+use Rattle.model.proofs.CellMap.{fresh-map}
+use Rattle.model.specs.Choice.{All}
+use Rattle.model.proofs.Says.{all-replicate}
 
 pub fresh-sizes : Sizes fresh
 fresh-sizes =

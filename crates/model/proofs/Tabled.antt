@@ -10,9 +10,7 @@ use lib.Dec.{T, eqb, ltb, leb}
 use Rattle.model.specs.declared.Row.{Row}
 use Rattle.model.specs.declared.Control.{Control}
 use Rattle.model.specs.Choice.{_and_, any}
-use Rattle.model.specs.Kinds.{cells}
-use Rattle.model.specs.Records.{cellsAt, payloadAt}
-use Rattle.model.specs.CellMap.{lowestRun}
+use Rattle.model.specs.Arena.{cells, cellsAt, payloadAt, lowestRun}
 use Rattle.model.specs.Rows.{busy, hold}
 use Rattle.model.specs.State.{stageOf, inHand, entry, State}
 use Rattle.model.specs.Refusals.{Refusal, _if_, refuse}

@@ -10,8 +10,7 @@ use lib.ListN.{length, List·getD-eq-default}
 use borrow.Author.Tests.{eqb-true, eq-eqb}
 use Rattle.model.specs.declared.Move.{Move}
 use Rattle.model.specs.Choice.{total}
-use Rattle.model.specs.Records.{none, header, flagOf}
-use Rattle.model.specs.CellMap.{used}
+use Rattle.model.specs.Arena.{none, header, flagOf, used}
 use Rattle.model.specs.State.{entry}
 use Rattle.model.specs.Rules.{recordCovers, flagUp}
 use Rattle.model.proofs.Choice.{order, same-or-not}

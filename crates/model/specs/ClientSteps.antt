@@ -15,7 +15,7 @@ use Rattle.model.specs.declared.Change.{Change}
 use Rattle.model.specs.declared.Change.the-variants.{Nothing, Put}
 use Rattle.model.specs.declared.Stepped.{Stepped}
 use Rattle.model.specs.Choice.{pick}
-use Rattle.model.specs.Records.{none, place, header, plain, flagged, targetOf, flagOf, payloadPlace}
+use Rattle.model.specs.Arena.{none, place, header, plain, flagged, targetOf, flagOf, payloadPlace}
 use Rattle.model.specs.Rows.{hold, holdOf, emptyHolds, withAttached, withPassed, withHolds, withSwaps, withPhase}
 use Rattle.model.specs.State.{rise}
 

@@ -9,14 +9,11 @@ use Rattle.model.specs.declared.Control.{Control}
 use Rattle.model.specs.declared.Answer.the-variants.{Refused, Admitted, Begun, BarrierOpen, CopyingStarts, Copied, Committed}
 use Rattle.model.specs.declared.Answer.the-variants.{CalledOff, GivenBack, Done}
 use Rattle.model.specs.Choice.{pick}
-use Rattle.model.specs.Kinds.{cells}
-use Rattle.model.specs.Records.{none, start, place, word, header, plain, flagged, cellsAt, wordsAt, newRecord, laid}
-use Rattle.model.specs.CellMap.{putRun}
+use Rattle.model.specs.Arena.{cells, none, start, place, word, header, plain, flagged, cellsAt, wordsAt, newRecord, laid, putRun}
 use Rattle.model.specs.Rows.{clearMarks, allPassed}
 use Rattle.model.specs.State.{Stage, idle, firstBarrier, copying, secondBarrier, thirdBarrier, stageNumber, noMove, withStage}
-use Rattle.model.specs.State.{withCopied, withDir, withMap, withMove, withBegun, withCommitted, withAborted, rise}
-use Rattle.model.specs.State.{State, state, withControl}
-use Rattle.model.specs.Answers.{Outcome, outcome}
+use Rattle.model.specs.State.{withCopied, withDir, withMap, withMove, withBegun, withCommitted, withAborted, rise, State, state}
+use Rattle.model.specs.State.{withControl, Outcome, outcome}
 
 -- "Its cells become used", "cells free": the n cells from c on
 abbrev pub taken : Control → ℕ → ℕ → Control

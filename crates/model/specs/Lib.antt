@@ -1,14 +1,9 @@
 pub mod Choice
-pub mod Kinds
-pub mod Records
-pub mod CellMap
+pub mod Arena
 pub mod Rows
 pub mod State
-pub mod Fresh
-pub mod Answers
 pub mod KeeperSteps
 pub mod ClientSteps
 pub mod Refusals
-pub mod Steps
 pub mod Rules
-pub mod Calls
+pub mod Steps

@@ -6,9 +6,7 @@ use lib.Dec.{eqb, ltb, leb}
 use Rattle.model.specs.declared.Row.{Row}
 use Rattle.model.specs.declared.Control.{Control}
 use Rattle.model.specs.Choice.{pick, any}
-use Rattle.model.specs.Kinds.{cells}
-use Rattle.model.specs.Records.{none, cellsAt, payloadAt}
-use Rattle.model.specs.CellMap.{lowestRun}
+use Rattle.model.specs.Arena.{cells, none, cellsAt, payloadAt, lowestRun}
 use Rattle.model.specs.Rows.{hold, busy}
 use Rattle.model.specs.State.{stageOf, inHand, entry}
 

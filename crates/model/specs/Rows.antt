@@ -1,15 +1,16 @@
 -- 01, "Arena, records, parties": "The client table is lent as eight rows, one for each client."
+use mathlib.Core.Path.{_≡_}
 use mathlib.Core.Bool.{Bool, true, false, not}
 use mathlib.Core.List.{List, [], _∷_, map}
 use Prim.Native.Nat.{ℕ}
-use lib.ListN.{getD}
+use lib.ListN.{length, getD}
 use Rattle.model.specs.declared.Access.{Access}
 use Rattle.model.specs.declared.Access.the-variants.{Read, Write}
 use Rattle.model.specs.declared.Phase.{Phase}
 use Rattle.model.specs.declared.Phase.the-variants.{Resting, Ready, Waiting}
 use Rattle.model.specs.declared.Row.{Row}
 use Rattle.model.specs.Choice.{all}
-use Rattle.model.specs.Records.{none}
+use Rattle.model.specs.Arena.{none}
 
 -- "the access (read or write, hold, word, value), value 0 for a read"
 abbrev pub isWrite : Access → Bool
@@ -23,10 +24,6 @@ holdOf (Write h w v) = h
 abbrev pub wordOf : Access → ℕ
 wordOf (Read h w) = w
 wordOf (Write h w v) = w
-
-abbrev pub valueOf : Access → ℕ
-valueOf (Read h w) = 0
-valueOf (Write h w v) = v
 
 abbrev pub accessOf : Bool → ℕ → ℕ → ℕ → Access
 accessOf true h w v = Write h w v
@@ -44,6 +41,10 @@ hold r h = getD (r .holds) h none
 
 abbrev pub emptyHolds : List ℕ
 emptyHolds = none ∷ none ∷ none ∷ none ∷ []
+
+-- what every value of type [u32; 4] is
+abbrev pub FourHolds : Row → Type 0
+FourHolds r = length (r .holds) ≡ 4
 
 -- "swaps made"
 abbrev pub swapsOf : Row → ℕ

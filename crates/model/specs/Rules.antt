@@ -9,8 +9,7 @@ use Rattle.model.specs.declared.Phase.the-variants.{Resting, Ready, Wait
 use Rattle.model.specs.declared.Row.{Row}
 use Rattle.model.specs.declared.Move.{Move}
 use Rattle.model.specs.Choice.{pick, _and_, _or_, _⇒_, one, every, all, any, total}
-use Rattle.model.specs.Records.{none, header, plain, flagged, targetOf, label, meterOf, cellsAt, wordsAt, payloadAt}
-use Rattle.model.specs.CellMap.{used}
+use Rattle.model.specs.Arena.{none, header, plain, flagged, targetOf, label, meterOf, cellsAt, wordsAt, payloadAt, used}
 use Rattle.model.specs.Rows.{holdOf, wordOf, busy, hold}
 use Rattle.model.specs.State.{Stage, idle, firstBarrier, copying, secondBarrier, thirdBarrier, stageOf, entry, State}
 

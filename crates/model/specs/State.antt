@@ -1,13 +1,18 @@
--- 01, "Arena, records, parties": the control record, and the whole state that a step works on.
+-- 01, "Arena, records, parties": the control record, the whole state that a step works on, fresh, and what a step answers.
+use mathlib.Core.Path.{_≡_}
 use mathlib.Core.Bool.{Bool, true, false}
 use mathlib.Core.List.{List, [], _∷_}
-use Prim.Native.Nat.{ℕ, pred, _+_, _%_, _^_}
-use lib.ListN.{getD, set}
+use Prim.Native.Nat.{ℕ, pred, _+_, _%_, _^_, _<_}
+use lib.ListN.{length, getD, set, replicate}
 use Rattle.model.specs.declared.Row.{Row}
 use Rattle.model.specs.declared.Move.{Move}
 use Rattle.model.specs.declared.Control.{Control}
-use Rattle.model.specs.Records.{none}
-use Rattle.model.specs.Rows.{freshRow}
+use Rattle.model.specs.declared.Answer.{Answer}
+use Rattle.model.specs.Choice.{All}
+use Rattle.model.specs.Arena.{none, IsMap}
+use Rattle.model.specs.Rows.{FourHolds, freshRow}
+use Rattle.model.specs.declared.Answer.the-variants.{Refused, Admitted, Begun, BarrierOpen, CopyingStarts, Copied, Committed}
+use Rattle.model.specs.declared.Answer.the-variants.{CalledOff, GivenBack, Done, ReadyAt, WaitsOn, SwapWon, SwapLost, Got, Written}
 
 -- the stages of a move, by number; any other number is no stage
 pub data Stage : Type 0 where
@@ -92,3 +97,54 @@ rowOf s who = getD (s .table) (pred who) freshRow
 
 abbrev pub withRow : State → ℕ → Row → State
 withRow s who x = withTable s (set (s .table) (pred who) x)
+
+-- "Fresh zeroes the arena, empties the directory, map and counts, and leaves eight unattached rows: passed, resting, holds empty, swaps
+-- 0."; "A fresh directory has all 256 meters absent."
+abbrev pub freshControl : Control
+freshControl = record { dir = replicate 256 none; map = replicate 16 0; mv = noMove; begun = 0; committed = 0; aborted = 0 }
+
+abbrev pub fresh : State
+fresh = state freshControl (replicate 8192 0) (replicate 8 freshRow)
+
+-- what the code's types and its test of sizes say of a state: the lengths of its parts, 64 bits in a word of the map, 32 in a count
+pub record Sizes (s : State) : Type 0 where
+  pub entries : length (s .control .dir) ≡ 256
+  pub map : IsMap (s .control .map)
+  pub begun : s .control .begun < 2 ^ 32
+  pub arena : length (s .arena) ≡ 8192
+  pub rows : length (s .table) ≡ 8
+  pub holds : All FourHolds (s .table)
+
+-- 01's number and value for each answer: a refusal's is that of the table, the others are named at the steps and calls.
+-- "Values not named are 0."
+abbrev pub told : Answer → ℕ × ℕ
+told (Refused n) = (n, 0)
+told (Admitted c) = (20, c)
+told (Begun target) = (21, target)
+told BarrierOpen = (22, 0)
+told CopyingStarts = (23, 0)
+told (Copied n) = (24, n)
+told (Committed target) = (25, target)
+told CalledOff = (26, 0)
+told GivenBack = (27, 0)
+told (Done x) = (30, x)
+told (ReadyAt target) = (31, target)
+told (WaitsOn c) = (32, c)
+told SwapWon = (33, 1)
+told SwapLost = (33, 0)
+told (Got x) = (34, x)
+told Written = (35, 0)
+
+abbrev pub number : Answer → ℕ
+number x = told x .0
+
+abbrev pub value : Answer → ℕ
+value x = told x .1
+
+-- what a step answers, and the state that it leaves
+pub record Outcome : Type 0 where
+  pub answer : Answer
+  pub next : State
+
+abbrev pub outcome : Answer → State → Outcome
+outcome x s = record { answer = x; next = s }

@@ -9,12 +9,10 @@ use lib.ListN.{length, take, drop, length-set}
 use lib.Seq.{sets, sets-eq, take-append-seam, length-take-le}
 use Rattle.model.specs.declared.Control.{Control}
 use Rattle.model.specs.Choice.{total}
-use Rattle.model.specs.CellMap.{fill}
+use Rattle.model.specs.Arena.{fill}
 use Rattle.model.specs.Rows.{swapsOf}
-use Rattle.model.specs.State.{State}
-use Rattle.model.specs.Fresh.{fresh}
-use Rattle.model.specs.Steps.{Step, act}
-use Rattle.model.specs.Calls.{Ran, oneByOne, stepsFrom}
+use Rattle.model.specs.State.{State, fresh}
+use Rattle.model.specs.Steps.{Step, act, Ran, oneByOne, stepsFrom}
 use Rattle.model.proofs.Choice.{order}
 use Rattle.model.proofs.MapCount.{count-le}
 use Rattle.demands.specs.Log.{after}

@@ -9,12 +9,9 @@ use native.Mathlib.Omega.{arith}
 use lib.ListN.{length, getD, drop, replicate, length-replicate}
 use lib.Seq.{sets, sets-eq, getD-append-add, getD-drop}
 use Rattle.model.specs.declared.Control.{Control}
-use Rattle.model.specs.State.{State}
-use Rattle.model.specs.Fresh.{fresh}
-use Rattle.model.specs.Steps.{Step, act}
+use Rattle.model.specs.State.{State, fresh, outcome}
+use Rattle.model.specs.Steps.{Step, act, oneByOne, stepsFrom, wrongSize, freshCall}
 use Rattle.model.specs.declared.Answer.the-variants.{Done}
-use Rattle.model.specs.Answers.{outcome}
-use Rattle.model.specs.Calls.{oneByOne, stepsFrom, wrongSize, freshCall}
 use Rattle.model.proofs.Choice.{order}
 use Rattle.demands.specs.Log.{after}
 use Rattle.archive.specs.declared.Reply.{Reply}

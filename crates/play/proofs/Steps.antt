@@ -10,10 +10,8 @@ use native.Mathlib.Omega.{arith}
 use borrow.Author.Tests.{le-leb, lt-leb}
 use lib.Dec.{T}
 use Rattle.model.specs.declared.Control.{Control}
-use Rattle.model.specs.State.{State}
-use Rattle.model.specs.Answers.{Outcome, number, value}
-use Rattle.model.specs.Steps.{Step, act}
-use Rattle.model.specs.Calls.{stepCall, Ran, oneByOne}
+use Rattle.model.specs.State.{State, Outcome, number, value}
+use Rattle.model.specs.Steps.{Step, act, stepCall, Ran, oneByOne}
 use Rattle.model.proofs.Choice.{order}
 use Rattle.model.proofs.Answered.{numberOf01, Answered, answered}
 use Rattle.demands.specs.Log.{after}

@@ -6,8 +6,7 @@ use Prim.Native.Nat.{ℕ, zero, suc, _*_, _≤_}
 use lib.ListN.{length, take}
 use Rattle.model.specs.declared.Control.{Control}
 use Rattle.model.specs.State.{State}
-use Rattle.model.specs.Steps.{Step, step, act}
-use Rattle.model.specs.Calls.{Ran, oneByOne, stepAt}
+use Rattle.model.specs.Steps.{Step, step, act, Ran, oneByOne, stepAt}
 use Rattle.demands.specs.Log.{after}
 use Rattle.table.specs.Words.{tableWords}
 use Rattle.turns.specs.declared.Numbers.{Numbers}

@@ -4,7 +4,7 @@ ghost use mathlib.Core.Path.{_≡_};
 ghost use Prim.Native.Nat.{_*_, _≤_};
 ghost use lib.ListN.{length};
 ghost use Rattle.model.specs.Choice.{total};
-ghost use Rattle.model.specs.CellMap.{fill};
+ghost use Rattle.model.specs.Arena.{fill};
 ghost use Rattle.model.specs.Rows.{swapsOf};
 ghost use Rattle.model.specs.Steps.{step};
 ghost use Rattle.table.specs.Words.{rowsRead};

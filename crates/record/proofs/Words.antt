@@ -5,7 +5,7 @@ use Prim.Native.Nat.{ℕ, zero, suc, _+_, _/_, _%_, _^_, _<_}
 use native.Mathlib.Omega.{arith}
 use lib.Dec.{eqb}
 use Rattle.model.specs.Choice.{one}
-use Rattle.model.specs.Records.{plain, flagged, targetOf, flagOf}
+use Rattle.model.specs.Arena.{plain, flagged, targetOf, flagOf}
 use Rattle.record.specs.Words.{unpacked, packed}
 
 -- "2 × target cell + flag"

@@ -2,7 +2,7 @@
 use mathlib.Core.Bool.{Bool}
 use Prim.Native.Nat.{ℕ, _+_, _%_, _^_}
 use Rattle.model.specs.Choice.{one}
-use Rattle.model.specs.Records.{plain, targetOf, flagOf, meterOf, kindOf}
+use Rattle.model.specs.Arena.{plain, targetOf, flagOf, meterOf, kindOf}
 use Rattle.record.specs.declared.Header.{Header}
 use Rattle.record.specs.declared.Label.{Label}
 

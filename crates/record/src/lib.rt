@@ -3,8 +3,7 @@
 ghost use mathlib.Core.Path.{_≡_};
 ghost use lib.Dec.{eqb};
 ghost use lib.ListN.{getD, set, replicate};
-ghost use Rattle.model.specs.Kinds.{ofKind};
-ghost use Rattle.model.specs.Records.{start, place, header, plain, flagged, label, labelOf, kindOf, payloadPlace, newRecord, laid};
+ghost use Rattle.model.specs.Arena.{ofKind, start, place, header, plain, flagged, label, labelOf, kindOf, payloadPlace, newRecord, laid};
 ghost use Rattle.model.specs.ClientSteps.{changed};
 ghost use Rattle.record.specs.Words.{unpacked, packed, unpackedLabel};
 

@@ -7,7 +7,7 @@ use native.Mathlib.Omega.{arith}
 use lib.Dec.{eqb, leb}
 use borrow.Author.Tests.{eq-eqb, ne-eqb, lt-ltb}
 use Rattle.model.specs.declared.Move.{Move}
-use Rattle.model.specs.Records.{none, header, plain, label, cellsAt}
+use Rattle.model.specs.Arena.{none, header, plain, label, cellsAt}
 use Rattle.model.specs.State.{stageOf, entry, idle}
 use Rattle.model.specs.Rules.{isEarly, isLate, replicaRight, earlyRight, lateRight, R2, numbersRight}
 use Rattle.model.proofs.Choice.{and-yes}

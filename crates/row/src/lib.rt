@@ -4,7 +4,7 @@ ghost use mathlib.Core.Path.{_≡_};
 ghost use lib.Dec.{eqb};
 ghost use lib.ListN.{getD, set};
 ghost use Rattle.model.specs.Choice.{pick, any};
-ghost use Rattle.model.specs.Records.{none};
+ghost use Rattle.model.specs.Arena.{none};
 ghost use Rattle.model.specs.Rows.{accessOf, holdOf, wordOf, busy, withPhase};
 use model::Access;
 use model::Phase;

@@ -9,7 +9,7 @@ use native.Mathlib.Omega.{arith}
 use lib.Dec.{eqb}
 use lib.ListN.{length, List·getD-eq-default}
 use Rattle.model.specs.Choice.{any}
-use Rattle.model.specs.Records.{none, label, meterOf}
+use Rattle.model.specs.Arena.{none, label, meterOf}
 use Rattle.model.specs.State.{entry}
 use Rattle.model.specs.Rules.{R1}
 use Rattle.model.proofs.Choice.{order}

@@ -10,7 +10,7 @@ use Rattle.model.specs.declared.Phase.{Phase}
 use Rattle.model.specs.declared.Phase.the-variants.{Resting, Ready, Waiting}
 use Rattle.model.specs.declared.Row.{Row}
 use Rattle.model.specs.Choice.{any}
-use Rattle.model.specs.Records.{none}
+use Rattle.model.specs.Arena.{none}
 use Rattle.model.specs.Rules.{isLate, holdRight, accessRight, phaseRight, swapsRight}
 use Rattle.model.proofs.Says.{says-le, says-same}
 use Rattle.model.proofs.Readings.{owed, says-swaps}

@@ -7,7 +7,7 @@ use lib.ListN.{getD}
 use Rattle.model.specs.declared.Phase.{Phase}
 use Rattle.model.specs.declared.Phase.the-variants.{Resting, Ready, Waiting}
 use Rattle.model.specs.Choice.{_and_, _or_}
-use Rattle.model.specs.Records.{none, header, targetOf, payloadAt}
+use Rattle.model.specs.Arena.{none, header, targetOf, payloadAt}
 use Rattle.model.specs.Rows.{holdOf, wordOf}
 use Rattle.model.specs.Rules.{isCell}
 

@@ -6,7 +6,7 @@ ghost use Prim.Native.Nat.{_≤_};
 ghost use lib.Dec.{eqb};
 ghost use lib.ListN.{length};
 ghost use Rattle.model.specs.Choice.{all, any};
-ghost use Rattle.model.specs.Records.{none};
+ghost use Rattle.model.specs.Arena.{none};
 ghost use Rattle.model.specs.Rules.{R1, detachedRight, holdRight, passedRight, rowRight, R6, flagUp, swapsRight, R8};
 ghost use Rattle.model.proofs.Readings.{owed};
 ghost use Rattle.table.specs.Words.{rowsOf};

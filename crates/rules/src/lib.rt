@@ -4,7 +4,7 @@ ghost use mathlib.Core.Path.{_≡_};
 ghost use lib.ListN.{length};
 ghost use Rattle.model.specs.State.{state};
 ghost use Rattle.model.specs.Rules.{firstBroken};
-ghost use Rattle.model.proofs.CellMap.{IsMap};
+ghost use Rattle.model.specs.Arena.{IsMap};
 ghost use Rattle.table.specs.Words.{rowsOf};
 ghost use Rattle.rules.specs.Lent.{lent};
 use model::Control;

@@ -4,14 +4,12 @@ use mathlib.Core.List.{List, [], _∷_, map}
 use Prim.Native.Nat.{ℕ}
 use Prim.Native.String.{String}
 use Rattle.model.specs.Choice.{every}
-use Rattle.model.specs.CellMap.{bit, withBit, used, put, putRun, countUsed, fill, freeCells, runAt, lowestFrom, lowestRun}
-use Rattle.model.specs.Kinds.{kindTable, ofKind}
-use Rattle.model.specs.Records.{laid}
+use Rattle.model.specs.Arena.{bit, withBit, used, put, putRun, countUsed, fill, freeCells, runAt, lowestFrom, lowestRun, kindTable, ofKind}
+use Rattle.model.specs.Arena.{laid}
 use Rattle.model.specs.State.{rise}
 use Rattle.model.specs.ClientSteps.{atHeader, swap, forwarded}
 use Rattle.model.specs.KeeperSteps.{barrier, replicaWord, copyWord, settle}
-use Rattle.model.specs.Steps.{act}
-use Rattle.model.specs.Calls.{stepsFrom}
+use Rattle.model.specs.Steps.{act, stepsFrom}
 use Rattle.script.specs.Numbers.{isDigit, digits, valueFrom, proper, numberAt}
 use Rattle.script.specs.Lines.{fieldAt, lineAt, linesAt, sectionAt, parse, numbersAt}
 use Rattle.script.specs.Printing.{bytes, decimalIn, decimal, line1, line2}

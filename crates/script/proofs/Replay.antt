@@ -7,10 +7,8 @@ use native.Mathlib.Omega.{arith}
 use borrow.Author.Tests.{lt-ltb, le-ltb}
 use lib.ListN.{length, getD, drop, List·getD-append}
 use lib.Seq.{sets, sets-eq}
-use Rattle.model.specs.State.{State}
-use Rattle.model.specs.Answers.{Outcome, number, value}
-use Rattle.model.specs.Steps.{Step}
-use Rattle.model.specs.Calls.{oneByOne, stepAt, stepsFrom}
+use Rattle.model.specs.State.{State, Outcome, number, value}
+use Rattle.model.specs.Steps.{Step, oneByOne, stepAt, stepsFrom}
 use Rattle.script.specs.declared.Parsed.{Parsed}
 use Rattle.script.specs.declared.Parsed.the-variants.{Bad, Script}
 use Rattle.script.specs.Lines.{parse}

@@ -10,12 +10,9 @@ use borrow.Author.Tests.{lt-ltb, le-ltb}
 use lib.ListN.{length, set, length-append, length-set}
 use lib.Seq.{sets}
 use Rattle.model.proofs.Choice.{order}
-use Rattle.model.specs.CellMap.{fill}
-use Rattle.model.specs.State.{State}
-use Rattle.model.specs.Fresh.{fresh}
-use Rattle.model.specs.Answers.{Outcome}
-use Rattle.model.specs.Steps.{Step, act}
-use Rattle.model.specs.Calls.{Ran, oneByOne, stepsFrom}
+use Rattle.model.specs.Arena.{fill}
+use Rattle.model.specs.State.{State, fresh, Outcome}
+use Rattle.model.specs.Steps.{Step, act, Ran, oneByOne, stepsFrom}
 use Rattle.script.specs.declared.Parsed.{Parsed}
 use Rattle.script.specs.declared.Parsed.the-variants.{Bad, Script}
 use Rattle.script.specs.Lines.{parse, numbersAt}

@@ -5,12 +5,10 @@ use lib.Dec.{ltb}
 use lib.ListN.{length, getD}
 use Rattle.model.specs.declared.Row.{Row}
 use Rattle.model.specs.Choice.{pick, total}
-use Rattle.model.specs.CellMap.{fill}
+use Rattle.model.specs.Arena.{fill}
 use Rattle.model.specs.Rows.{swapsOf}
-use Rattle.model.specs.State.{State}
-use Rattle.model.specs.Fresh.{fresh}
-use Rattle.model.specs.Steps.{Step, step, act}
-use Rattle.model.specs.Calls.{Ran, oneByOne, stepsFrom}
+use Rattle.model.specs.State.{State, fresh}
+use Rattle.model.specs.Steps.{Step, step, act, Ran, oneByOne, stepsFrom}
 use Rattle.script.specs.declared.Parsed.{Parsed}
 use Rattle.script.specs.declared.Parsed.the-variants.{Bad, Script}
 use Rattle.script.specs.Lines.{parse, numbersAt}

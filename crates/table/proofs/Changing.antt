@@ -11,11 +11,11 @@ use borrow.Author.Tests.{lt-ltb, le-ltb}
 use Rattle.model.specs.declared.Phase.{Phase}
 use Rattle.model.specs.declared.Row.{Row}
 use Rattle.model.specs.Choice.{pick, one}
-use Rattle.model.specs.Records.{laid}
+use Rattle.model.specs.Arena.{laid}
 use Rattle.model.specs.Rows.{withSwaps, withPhase, freshRow, cleared}
 use Rattle.model.proofs.Records.{laid-none}
-use Rattle.table.specs.Words.{rowWords, tableWords, whole, listed, phaseWords}
-use Rattle.table.specs.Words.{putRow, putPhase, putSwaps, eachRow, clearMark, freshen}
+use Rattle.table.specs.Words.{rowWords, tableWords, whole, listed, phaseWords, putRow, putPhase, putSwaps, eachRow, clearMark}
+use Rattle.table.specs.Words.{freshen}
 use Rattle.table.proofs.Twelve.{twelve, wordOf, next-row, next-place, whole-past, InRows, none, more}
 
 pub record Changer (f : List ℕ → ℕ → List ℕ) (g : Row → Row) : Type 0 where

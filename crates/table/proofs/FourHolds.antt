@@ -8,7 +8,8 @@ use lib.ListN.{length, getD, set, replicate, List·getD-map}
 use Rattle.model.specs.declared.Row.{Row}
 use Rattle.model.specs.Rows.{freshRow, cleared, clearMarks}
 use Rattle.model.proofs.Choice.{by-test}
-use Rattle.model.proofs.Says.{All, all-get, at-all}
+use Rattle.model.specs.Choice.{All}
+use Rattle.model.proofs.Says.{all-get, at-all}
 use Rattle.table.specs.Words.{whole, rowIn, isRow, rowAt, listFrom, rowsOf}
 
 abbrev pub Four : Row → Type 0

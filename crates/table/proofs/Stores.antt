@@ -8,7 +8,7 @@ use native.Mathlib.Numerals.{add-one}
 use lib.ListN.{set}
 use Rattle.model.specs.declared.Row.{Row}
 use Rattle.model.specs.Choice.{pick}
-use Rattle.model.specs.Records.{laid}
+use Rattle.model.specs.Arena.{laid}
 use Rattle.model.proofs.Records.{laid-none, laid-first, length-laid}
 use Rattle.table.specs.Words.{frontWords, rowWords, listed, phaseWords, whole, putFront, putPhase, putRow}
 

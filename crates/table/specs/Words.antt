@@ -11,7 +11,7 @@ use Rattle.model.specs.declared.Phase.{Phase}
 use Rattle.model.specs.declared.Phase.the-variants.{Resting, Ready, Waiting}
 use Rattle.model.specs.declared.Row.{Row}
 use Rattle.model.specs.Choice.{pick, one, _and_, _or_}
-use Rattle.model.specs.Records.{laid}
+use Rattle.model.specs.Arena.{laid}
 use Rattle.model.specs.Rows.{accessOf, emptyHolds, freshRow}
 use Rattle.table.specs.declared.PhaseWords.{PhaseWords}
 

@@ -13,8 +13,7 @@ use Rattle.model.specs.declared.Answer.the-variants.{Refused}
 use Rattle.model.specs.declared.Stepped.{Stepped}
 use Rattle.model.specs.Choice.{pick, any}
 use Rattle.model.specs.Rows.{freshRow, cleared, allPassed}
-use Rattle.model.specs.State.{State, stageOf, entry}
-use Rattle.model.specs.Answers.{Outcome}
+use Rattle.model.specs.State.{State, stageOf, entry, Outcome}
 use Rattle.model.specs.ClientSteps.{changed}
 use Rattle.model.specs.KeeperSteps.{moveOf}
 use Rattle.model.specs.Refusals.{holdsCell}

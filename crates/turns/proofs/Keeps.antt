@@ -14,7 +14,7 @@ use Rattle.model.specs.declared.Answer.the-variants.{Refused}
 use Rattle.model.specs.declared.Change.the-variants.{Nothing}
 use Rattle.model.specs.declared.Row.{Row}
 use Rattle.model.specs.declared.Stepped.{Stepped}
-use Rattle.model.specs.Records.{none, header, flagged, flagOf}
+use Rattle.model.specs.Arena.{none, header, flagged, flagOf}
 use Rattle.model.specs.Rows.{withPhase, withSwaps, freshRow, hold, holdOf}
 use Rattle.model.specs.ClientSteps.{attach, detach, openHold, dropHold, atHeader, go, swap, rest, forwarded, changed}
 use Rattle.model.specs.Refusals.{Refusal, attachRefusals, restRefusals, openRefusals, dropRefusals, goRefusals}

@@ -11,8 +11,7 @@ use borrow.Author.Tests.{ltb-true, lt-ltb, le-ltb}
 use Rattle.model.specs.declared.Answer.{Answer}
 use Rattle.model.specs.declared.Control.{Control}
 use Rattle.model.specs.Choice.{_and_}
-use Rattle.model.specs.Steps.{Step}
-use Rattle.model.specs.Calls.{stepAt}
+use Rattle.model.specs.Steps.{Step, stepAt}
 use Rattle.model.proofs.Choice.{and-parts}
 use Rattle.turns.specs.Turns.{Lent, lent, Turn, turnOn, Going, going, toldAs, putTold, hasStep, after, turnsFrom}
 

@@ -6,11 +6,9 @@ use native.Mathlib.Numerals.{add-one}
 use native.Mathlib.Omega.{arith}
 use lib.ListN.{length, set, length-set}
 use Rattle.model.specs.declared.Answer.{Answer}
-use Rattle.model.specs.Records.{laid}
-use Rattle.model.specs.State.{State}
-use Rattle.model.specs.Answers.{Outcome, number, value}
-use Rattle.model.specs.Steps.{Step, act}
-use Rattle.model.specs.Calls.{Ran, then, oneByOne, stepAt, stepsFrom}
+use Rattle.model.specs.Arena.{laid}
+use Rattle.model.specs.State.{State, Outcome, number, value}
+use Rattle.model.specs.Steps.{Step, act, Ran, then, oneByOne, stepAt, stepsFrom}
 use Rattle.model.proofs.Records.{laid-none, laid-first}
 use Rattle.turns.specs.Turns.{Going, going, toldAs, putTold, after, turnsFrom}
 use Rattle.turns.proofs.Loop.{step-there, turns-next, turns-end}

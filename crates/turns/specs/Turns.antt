@@ -13,13 +13,11 @@ use Rattle.model.specs.declared.Answer.the-variants.{Refused}
 use Rattle.model.specs.declared.Stepped.{Stepped}
 use Rattle.model.specs.Choice.{pick, _and_, any}
 use Rattle.model.specs.Rows.{allPassed}
-use Rattle.model.specs.State.{stageOf, entry}
-use Rattle.model.specs.Answers.{number, value}
+use Rattle.model.specs.State.{stageOf, entry, number, value}
 use Rattle.model.specs.ClientSteps.{changed}
 use Rattle.model.specs.Refusals.{holdsCell}
 use Rattle.model.specs.Steps.{Step, Name, ADMIT, RETIRE, BEGIN, ADVANCE, ATTACH, DETACH, OPEN, DROP, READ, WRITE, GO, REST, UNKNOWN, NOBODY}
-use Rattle.model.specs.Steps.{keeperCodes, clientCodes}
-use Rattle.model.specs.Calls.{stepAt}
+use Rattle.model.specs.Steps.{keeperCodes, clientCodes, stepAt}
 use Rattle.clients.specs.Turns.{clientTurn}
 use Rattle.keeper.specs.declared.Kept.{Kept}
 use Rattle.keeper.specs.declared.Moved.{Moved}

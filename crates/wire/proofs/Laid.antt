@@ -5,7 +5,7 @@ use Prim.Native.Nat.{ℕ, zero, suc, _+_}
 use native.Mathlib.Nat.{zero-add, suc-add}
 use native.Mathlib.Numerals.{add-one}
 use lib.ListN.{length, set}
-use Rattle.model.specs.Records.{laid}
+use Rattle.model.specs.Arena.{laid}
 use Rattle.model.proofs.Records.{laid-none, laid-first}
 
 -- laid behind one another they are laid together

@@ -8,7 +8,7 @@ use native.Mathlib.Omega.{arith}
 use lib.ListN.{length, getD, take, drop}
 use lib.Seq.{getD-append-add, drop-cons, drop-drop, take-add}
 use lib.Pow.{shr-lt}
-use Rattle.model.proofs.Says.{All}
+use Rattle.model.specs.Choice.{All}
 use Rattle.wire.specs.Bytes.{number, bytes, numbers, allBytes}
 use Rattle.wire.proofs.Bytes.{length-bytes}
 

@@ -3,7 +3,7 @@
 ghost use mathlib.Core.Path.{_≡_};
 ghost use Prim.Native.Nat.{_+_, _*_, _≤_};
 ghost use lib.ListN.{length};
-ghost use Rattle.model.specs.Records.{laid};
+ghost use Rattle.model.specs.Arena.{laid};
 ghost use Rattle.wire.specs.Bytes.{number, bytes, numbers, allBytes};
 
 // Two bytes as one number, the low one first; below, two numbers of two bytes, and two of four.

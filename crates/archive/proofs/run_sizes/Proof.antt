@@ -1,7 +1,7 @@
 -- `archive::run_sizes` meets its contract, by its three tests. Assumes nothing.
 use borrow.Author.Needs.{needs}
 use borrow.Author.Tests.{eq-eqb, ne-eqb, lt-leb, le-leb}
-use Rattle.model.specs.Calls.{runSizes}
+use Rattle.model.specs.Steps.{runSizes}
 use Rattle.archive.proofs.run_sizes.Statement.{statement}
 use Rattle.archive.proofs.run_sizes.Tie as tie
 

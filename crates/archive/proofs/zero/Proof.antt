@@ -8,7 +8,7 @@ use native.Mathlib.Nat.{zero-add}
 use native.Mathlib.Omega.{arith}
 use lib.ListN.{length, set, replicate, length-replicate}
 use Rattle.model.proofs.Records.{laid-none, laid-all, laid-run-more}
-use Rattle.model.specs.Records.{laid}
+use Rattle.model.specs.Arena.{laid}
 use Rattle.archive.proofs.zero.Statement.{statement}
 use Rattle.archive.proofs.zero.Tie as tie
 

@@ -7,7 +7,7 @@ use borrow.Author.Needs.{needs}
 use Rattle.blocks.proofs.Lay.{far-block}
 use Rattle.blocks.proofs.Seen.{cells-small, cells-read}
 use Rattle.blocks.specs.Lay.{lay, free}
-use Rattle.model.specs.Records.{cellsAt}
+use Rattle.model.specs.Arena.{cellsAt}
 use Rattle.blocks.proofs.lay_record.Statement.{statement}
 use Rattle.blocks.proofs.lay_record.Tie as tie
 

@@ -5,7 +5,7 @@ use mathlib.Core.Bool.{false}
 use lib.Dec.{eqb}
 use borrow.Author.Needs.{needs}
 use borrow.Author.Tests.{ne-eqb}
-use Rattle.model.specs.Calls.{auditCall}
+use Rattle.model.specs.Steps.{auditCall}
 use Rattle.byrow.proofs.Calls.{audit-is}
 use Rattle.byrow.proofs.ReadBack.{look-refused, look-done}
 use Rattle.byrow.proofs.audit_rows.Statement.{statement}

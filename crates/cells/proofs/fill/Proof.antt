@@ -7,8 +7,7 @@ use lib.ListN.{getD}
 use lib.Count.{ones}
 use mir.Syntax.{w64}
 use mir.Val.{Fits}
-use Rattle.model.specs.CellMap.{countUsed, fill}
-use Rattle.model.proofs.CellMap.{IsMap}
+use Rattle.model.specs.Arena.{countUsed, fill, IsMap}
 use Rattle.model.proofs.MapCount.{count-word, count-le}
 use Rattle.cells.proofs.fill.Statement.{statement}
 use Rattle.cells.proofs.fill.Tie as tie

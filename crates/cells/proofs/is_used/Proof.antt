@@ -7,7 +7,7 @@ use native.Mathlib.Omega.{arith}
 use lib.Bits.{and-mask}
 use lib.Dec.{eqb}
 use lib.ListN.{getD, List·getD-eq-default, length}
-use Rattle.model.specs.CellMap.{bit, used}
+use Rattle.model.specs.Arena.{bit, used}
 use Rattle.cells.proofs.is_used.Statement.{statement}
 use Rattle.cells.proofs.is_used.Tie as tie
 

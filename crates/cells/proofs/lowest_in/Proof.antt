@@ -4,7 +4,7 @@ use mathlib.Core.Path.{sym, ap, _∙_}
 use Prim.Native.Nat.{ℕ, _-_, _≤_, _<_}
 use native.Mathlib.Omega.{arith}
 use denote.Ref.{now}
-use Rattle.model.specs.CellMap.{lowestRun}
+use Rattle.model.specs.Arena.{lowestRun}
 use Rattle.model.proofs.CellMap.{nowhere, found, lowest-of-none}
 use Rattle.cells.proofs.Search.{NoneBelow, none-to-free, run-here, none-past, none-at-all, lowest-only}
 use Rattle.cells.proofs.lowest_in.Statement.{statement}

@@ -9,9 +9,8 @@ use native.Mathlib.Omega.{arith}
 use denote.Ref.{now}
 use lib.Count.{trailingZeros}
 use Rattle.model.specs.Choice.{one}
-use Rattle.model.specs.CellMap.{used}
+use Rattle.model.specs.Arena.{used, IsMap}
 use Rattle.model.proofs.Choice.{order}
-use Rattle.model.proofs.CellMap.{IsMap}
 use Rattle.cells.proofs.Search.{hop, hop-passed, hop-inside, hop-hit}
 use Rattle.cells.proofs.next_cell.Statement.{statement}
 use Rattle.cells.proofs.next_cell.Tie as tie

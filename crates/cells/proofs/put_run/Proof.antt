@@ -7,7 +7,7 @@ use native.Mathlib.Omega.{arith}
 use lib.ListN.{getD, set}
 use mir.Syntax.{w64}
 use mir.Val.{Fits}
-use Rattle.model.proofs.CellMap.{IsMap}
+use Rattle.model.specs.Arena.{IsMap}
 use Rattle.cells.specs.Words.{highMask, masked}
 use Rattle.cells.proofs.Runs.{wordPut, lowPut, run-by-masks, run-past-map, run-in-last}
 use Rattle.cells.proofs.put_run.Statement.{statement}

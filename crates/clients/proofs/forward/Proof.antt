@@ -2,7 +2,7 @@
 use borrow.Author.Needs.{needs}
 use borrow.Author.Tests.{eq-eqb, ne-eqb}
 use Rattle.model.specs.ClientSteps.{forwarded}
-use Rattle.model.specs.Records.{none}
+use Rattle.model.specs.Arena.{none}
 use Rattle.clients.proofs.forward.Statement.{statement}
 use Rattle.clients.proofs.forward.Tie as tie
 

@@ -4,7 +4,7 @@ use mathlib.Core.Path.{_≡_}
 use mathlib.Core.Bool.{false}
 use borrow.Author.Tests.{eqb-true}
 use Rattle.model.specs.ClientSteps.{swap}
-use Rattle.model.specs.Records.{plain}
+use Rattle.model.specs.Arena.{plain}
 use Rattle.record.specs.Words.{packed}
 use Rattle.clients.proofs.Headers.{plain-fits}
 use Rattle.clients.proofs.swap.Statement.{statement}

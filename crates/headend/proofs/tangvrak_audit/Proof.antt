@@ -1,8 +1,7 @@
 -- `headend::tangvrak_audit` meets its contract: the answer of audit on what the bytes mean. Assumes nothing.
 use mathlib.Core.Path.{_∙_}
-use mathlib.Core.Path.{_∙_}
 use borrow.Author.Needs.{needs}
-use Rattle.model.specs.Calls.{auditCall}
+use Rattle.model.specs.Steps.{auditCall}
 use Rattle.headend.proofs.Exported.{wrong-size, look-gives}
 use Rattle.headend.proofs.tangvrak_audit.Statement.{statement}
 use Rattle.headend.proofs.tangvrak_audit.Tie as tie

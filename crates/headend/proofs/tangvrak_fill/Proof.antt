@@ -1,8 +1,7 @@
 -- `headend::tangvrak_fill` meets its contract: the answer of fill on what the bytes mean. Assumes nothing.
 use mathlib.Core.Path.{_∙_}
-use mathlib.Core.Path.{_∙_}
 use borrow.Author.Needs.{needs}
-use Rattle.model.specs.Calls.{fillCall}
+use Rattle.model.specs.Steps.{fillCall}
 use Rattle.headend.proofs.Exported.{wrong-size, look-gives}
 use Rattle.headend.proofs.tangvrak_fill.Statement.{statement}
 use Rattle.headend.proofs.tangvrak_fill.Tie as tie

@@ -1,6 +1,6 @@
 -- `headend::tangvrak_fresh` meets its contract: fresh on what the bytes mean; all bytes are written where it is accepted. Assumes nothing.
 use borrow.Author.Needs.{needs}
-use Rattle.model.specs.Calls.{freshCall}
+use Rattle.model.specs.Steps.{freshCall}
 use Rattle.headend.proofs.Exported.{wrong-size, call-gives}
 use Rattle.headend.proofs.tangvrak_fresh.Statement.{statement}
 use Rattle.headend.proofs.tangvrak_fresh.Tie as tie

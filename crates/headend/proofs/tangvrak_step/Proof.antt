@@ -1,7 +1,6 @@
 -- `headend::tangvrak_step` meets its contract: step on what the bytes mean; all bytes are written where it is accepted. Assumes nothing.
 use borrow.Author.Needs.{needs}
-use Rattle.model.specs.Steps.{step}
-use Rattle.model.specs.Calls.{stepCall}
+use Rattle.model.specs.Steps.{step, stepCall}
 use Rattle.headend.proofs.Exported.{wrong-size, call-gives}
 use Rattle.headend.proofs.tangvrak_step.Statement.{statement}
 use Rattle.headend.proofs.tangvrak_step.Tie as tie

@@ -5,8 +5,7 @@ use Prim.Native.Nat.{_-_, _≤_}
 use native.Mathlib.Omega.{arith}
 use denote.Ref.{now}
 use lib.ListN.{length}
-use Rattle.model.specs.Steps.{act}
-use Rattle.model.specs.Calls.{oneByOne}
+use Rattle.model.specs.Steps.{act, oneByOne}
 use Rattle.archive.specs.Does.{meant}
 use Rattle.script.specs.Printing.{page}
 use Rattle.play.specs.Plays.{stepsIn, runIn, Reached}

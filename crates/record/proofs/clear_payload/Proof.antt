@@ -5,7 +5,7 @@ use mathlib.Core.List.{List}
 use Prim.Native.Nat.{ℕ, _≤_, _-_, _+_}
 use native.Mathlib.Omega.{arith}
 use lib.ListN.{length, set, replicate}
-use Rattle.model.specs.Records.{payloadPlace, laid}
+use Rattle.model.specs.Arena.{payloadPlace, laid}
 use Rattle.model.proofs.Records.{laid-none, length-laid, laid-run-more}
 use Rattle.record.proofs.clear_payload.Statement.{statement}
 use Rattle.record.proofs.clear_payload.Tie as tie

@@ -6,8 +6,7 @@ use mathlib.Core.List.{List, _∷_}
 use Prim.Native.Nat.{ℕ, suc}
 use native.Mathlib.Omega.{arith}
 use lib.ListN.{set, replicate}
-use Rattle.model.specs.Records.{start, place, plain, labelOf, payloadPlace, newRecord, laid}
-use Rattle.model.specs.Kinds.{payload}
+use Rattle.model.specs.Arena.{start, place, plain, labelOf, payloadPlace, newRecord, laid, payload}
 use Rattle.model.proofs.Records.{laid-first}
 use Rattle.record.specs.Words.{packed}
 use Rattle.record.proofs.Words.{packed-plain}

@@ -2,7 +2,7 @@
 use borrow.Author.Needs.{needs}
 use mathlib.Core.Path.{refl, sym}
 use lib.ListN.{List·getD-eq-default}
-use Rattle.model.specs.Kinds.{lengths, kindTable, ofKind}
+use Rattle.model.specs.Arena.{lengths, kindTable, ofKind}
 use Rattle.record.proofs.lengths_of.Statement.{statement}
 use Rattle.record.proofs.lengths_of.Tie as tie
 

@@ -1,6 +1,6 @@
 -- `row::hold_of` meets its contract: four selects pick one of four holds. Assumes nothing.
 use borrow.Author.Needs.{needs}
-use Rattle.model.specs.Records.{none}
+use Rattle.model.specs.Arena.{none}
 use Rattle.row.proofs.Holds.{hold-picked}
 use Rattle.row.proofs.hold_of.Statement.{statement}
 use Rattle.row.proofs.hold_of.Tie as tie

@@ -8,7 +8,7 @@ use borrow.Author.Needs.{needs}
 use borrow.Author.Tests.{eq-eqb, ne-eqb}
 use Rattle.model.proofs.Says.{atIndex, every-none, every-more, all-not, all-done}
 use Rattle.model.specs.Choice.{every}
-use Rattle.model.specs.Records.{none}
+use Rattle.model.specs.Arena.{none}
 use Rattle.row_rules.proofs.all_empty.Statement.{statement}
 use Rattle.row_rules.proofs.all_empty.Tie as tie
 

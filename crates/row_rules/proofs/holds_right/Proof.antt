@@ -8,7 +8,7 @@ use borrow.Author.Needs.{needs}
 use Rattle.model.proofs.Choice.{said-yes, said-no}
 use Rattle.model.proofs.Says.{atIndex, every-none, every-more, all-not, all-done}
 use Rattle.model.specs.Choice.{every}
-use Rattle.model.specs.Records.{none}
+use Rattle.model.specs.Arena.{none}
 use Rattle.model.specs.Rules.{holdRight}
 use Rattle.row_rules.proofs.holds_right.Statement.{statement}
 use Rattle.row_rules.proofs.holds_right.Tie as tie

@@ -8,7 +8,7 @@ use Prim.Native.Nat.{_≤_, _-_}
 use native.Mathlib.Omega.{arith}
 use lib.ListN.{length}
 use Rattle.model.specs.State.{withMove}
-use Rattle.model.specs.Calls.{stepAt}
+use Rattle.model.specs.Steps.{stepAt}
 use Rattle.turns.specs.Turns.{lent, going, turnsFrom}
 use Rattle.turns.proofs.Loop.{Took, took-by, step-below, turns-stop, turns-more}
 use Rattle.turns.proofs.Names.{turn-by-move, turn-by-keeper, turn-by-client, turn-by-nobody}

@@ -5,7 +5,7 @@ use Prim.Native.Nat.{_≤_, _-_}
 use native.Mathlib.Omega.{arith}
 use lib.ListN.{length, take}
 use lib.Seq.{take-all}
-use Rattle.model.specs.Records.{laid}
+use Rattle.model.specs.Arena.{laid}
 use Rattle.model.proofs.Records.{laid-none, length-laid}
 use Rattle.wire.specs.Bytes.{allBytes}
 use Rattle.wire.proofs.Bytes.{one-out}

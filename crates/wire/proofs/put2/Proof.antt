@@ -2,7 +2,7 @@
 use mathlib.Core.Path.{_∙_, sym, ap}
 use native.Mathlib.Omega.{arith}
 use lib.ListN.{length-set}
-use Rattle.model.specs.Records.{laid}
+use Rattle.model.specs.Arena.{laid}
 use Rattle.wire.proofs.Laid.{two-stores}
 use Rattle.wire.proofs.Bytes.{bytes-two}
 use borrow.Author.Needs.{needs}
