@@ -1,109 +1,20 @@
--- What the keeper's functions leave: the move or the control record, the word that changes, whether marks are cleared, the answer.
+-- What ADMIT, RETIRE and BEGIN leave: the control record, the word that changes, whether marks are cleared, the answer.
 -- The arena and the rows themselves are left to the caller; proofs/Acts joins these to the model's steps.
 use mathlib.Core.Bool.{Bool, true, false, not}
 use mathlib.Core.List.{List, [], _∷_}
 use Prim.Native.Nat.{ℕ}
-use lib.Dec.{eqb}
-use Rattle.model.specs.declared.Row.{Row}
-use Rattle.model.specs.declared.Move.{Move}
 use Rattle.model.specs.declared.Control.{Control}
-use Rattle.model.specs.declared.Change.{Change}
 use Rattle.model.specs.declared.Change.the-variants.{Nothing, Put}
-use Rattle.model.specs.declared.Answer.{Answer}
-use Rattle.model.specs.declared.Answer.the-variants.{Refused, Admitted, Begun, BarrierOpen, CopyingStarts, Copied, Committed, CalledOff}
-use Rattle.model.specs.declared.Answer.the-variants.{GivenBack, Done}
-use Rattle.model.specs.Choice.{pick}
-use Rattle.model.specs.Arena.{cells, none, start, place, header, plain, flagged, cellsAt, wordsAt, newRecord, laid, lowestRun}
-use Rattle.model.specs.Rows.{clearMarks}
-use Rattle.model.specs.State.{State, state, Stage, idle, firstBarrier, copying, secondBarrier, thirdBarrier, stageOf, inHand, stageNumber}
-use Rattle.model.specs.State.{noMove, withStage, withMove, withBegun, withCommitted, withAborted, rise, entry, Outcome, outcome}
-use Rattle.model.specs.ClientSteps.{changed}
-use Rattle.model.specs.KeeperSteps.{taken, freed, withEntry, firstMove, replicaWord}
+use Rattle.model.specs.declared.Answer.the-variants.{Refused, Admitted, Begun, Done}
+use Rattle.model.specs.Arena.{cells, none, start, place, flagged, cellsAt, newRecord, laid, lowestRun}
+use Rattle.model.specs.State.{State, state, stageOf, inHand, withMove, withBegun, rise, entry, Outcome, outcome}
+use Rattle.model.specs.KeeperSteps.{taken, freed, withEntry, firstMove}
 use Rattle.model.specs.Refusals.{Refusal, _if_, refuse, badMeter, badKind, isNone, admitRefusals, beginRefusals}
-use Rattle.keeper.specs.declared.Moved.{Moved}
-use Rattle.keeper.specs.declared.Kept.{Kept}
-
-abbrev pub moved : Move → Change → Bool → Answer → Moved
-moved v change clear x = record { mv = v; change = change; clear = clear; answer = x }
-
-abbrev pub kept : Control → Change → Bool → Answer → Kept
-kept c change clear x = record { control = c; change = change; clear = clear; answer = x }
-
--- only the answer is given
-abbrev pub stays : Move → Answer → Moved
-stays v x = moved v Nothing false x
+use Rattle.mover.specs.declared.Kept.{Kept}
+use Rattle.mover.specs.Kept.{kept}
 
 abbrev pub refusedKept : Control → ℕ → Kept
 refusedKept c n = kept c Nothing false (Refused n)
-
--- ADVANCE by the move alone. First barrier: "if any row has not passed, answer 22, nothing changes; else to copying, answer 23"
-unfoldable pub openFirst : Move → Bool → Moved
-openFirst v passed = pick passed (moved (withStage v copying) Nothing false CopyingStarts) (stays v BarrierOpen)
-
--- copying: "writes one word of the replica, in order from 0 .. After the last word marks are cleared and the stage is second barrier."
-abbrev pub oneCopied : Move → ℕ → Change → Bool → Moved
-oneCopied v stage change clear =
-    moved (record { stage = stage; meter = v .meter; from = v .from; target = v .target; copied = rise (v .copied) }) change clear
-    (Copied (rise (v .copied)))
-
-abbrev pub copiedWord : List ℕ → Move → Stage → Bool → Moved
-copiedWord arena v stage clear = oneCopied v (stageNumber stage) (Put (place (v .target) (v .copied)) (replicaWord arena v)) clear
-
-unfoldable pub copyMove : List ℕ → Move → Moved
-copyMove arena v =
-    pick (eqb (rise (v .copied)) (wordsAt arena (v .from))) (copiedWord arena v secondBarrier true) (copiedWord arena v copying false)
-
--- at the second and third barrier the move alone is enough only to answer 22
-abbrev pub advanceMove : List ℕ → Move → Bool → Stage → Moved
-advanceMove arena v passed idle = stays v (Refused 9)
-advanceMove arena v passed firstBarrier = openFirst v passed
-advanceMove arena v passed copying = copyMove arena v
-advanceMove arena v passed secondBarrier = stays v BarrierOpen
-advanceMove arena v passed thirdBarrier = stays v BarrierOpen
-
--- the second barrier, all passed: "Equal: header becomes 2 × target, directory entry the target, committed rises, marks are
--- cleared, stage third barrier, answer 25, value target."
-abbrev pub commitKept : Control → Kept
-commitKept c =
-    kept (withCommitted (withMove (withEntry c (c .mv .meter) (c .mv .target)) (withStage (c .mv) thirdBarrier)) (rise (c .committed)))
-    (Put (place (c .mv .from) 0) (plain (c .mv .target))) true (Committed (c .mv .target))
-
--- a block of the moved record's length freed, and no move in hand
-abbrev pub endMove : Control → List ℕ → ℕ → Control
-endMove c arena cell = withMove (freed c cell (cellsAt arena (c .mv .from))) noMove
-
--- "Not equal: the replica's cells are freed, aborted rises, no move in hand, answer 26."
-abbrev pub callOffKept : Control → List ℕ → Kept
-callOffKept c arena = kept (withAborted (endMove c arena (c .mv .target)) (rise (c .aborted))) Nothing false CalledOff
-
--- "compare the header with 2 × from + 1"
-unfoldable pub settleKept : Control → List ℕ → Kept
-settleKept c arena = pick (eqb (header arena (c .mv .from)) (flagged (c .mv .from))) (commitKept c) (callOffKept c arena)
-
--- the third barrier, all passed: "Else the old block's cells are freed, no move in hand, answer 27."
-abbrev pub giveBackKept : Control → List ℕ → Kept
-giveBackKept c arena = kept (endMove c arena (c .mv .from)) Nothing false GivenBack
-
--- ADVANCE as a whole: the second and third barrier want the whole record, once all have passed; else the move alone is enough
-abbrev pub closing : Bool → Stage → Bool
-closing passed idle = false
-closing passed firstBarrier = false
-closing passed copying = false
-closing passed secondBarrier = passed
-closing passed thirdBarrier = passed
-
-abbrev pub closeKept : Control → List ℕ → Stage → Kept
-closeKept c arena idle = kept c Nothing false BarrierOpen
-closeKept c arena firstBarrier = kept c Nothing false BarrierOpen
-closeKept c arena copying = kept c Nothing false BarrierOpen
-closeKept c arena secondBarrier = settleKept c arena
-closeKept c arena thirdBarrier = giveBackKept c arena
-
-abbrev pub onMove : Control → Moved → Kept
-onMove c o = kept (withMove c (o .mv)) (o .change) (o .clear) (o .answer)
-
-abbrev pub advanceKept : Control → List ℕ → Bool → Stage → Kept
-advanceKept c arena passed x = pick (closing passed x) (closeKept c arena x) (onMove c (advanceMove arena (c .mv) passed x))
 
 -- 5, 8 and 10: the lines that RETIRE and BEGIN have in common
 abbrev pub recordRefusals : List ℕ → ℕ → ℕ → List Refusal
@@ -145,14 +56,6 @@ unfoldable pub admitArena : Control → List ℕ → ℕ → ℕ → List ℕ
 admitArena c arena meter kind =
     refuse (admitRefusals c meter kind) (λ n. arena)
     (laid arena (start (lowestRun (c .map) (cells kind))) (newRecord (lowestRun (c .map) (cells kind)) meter kind))
-
--- what a step leaves, put back into the state: the word that changes, and the marks where they are cleared
-abbrev pub marked : Bool → List Row → List Row
-marked true table = clearMarks table
-marked false table = table
-
-abbrev pub placed : State → Kept → Outcome
-placed s o = outcome (o .answer) (state (o .control) (changed (s .arena) (o .change)) (marked (o .clear) (s .table)))
 
 -- ADMIT: the arena beside the rest
 abbrev pub placedWith : State → Kept → List ℕ → Outcome

@@ -21,9 +21,11 @@ use Rattle.model.specs.Steps.{Step, step, Name, UNKNOWN, clientCodes, seated, r
 use Rattle.model.proofs.Choice.{order}
 use Rattle.clients.specs.Turns.{clientTurn}
 use Rattle.clients.proofs.Acts.{act-client}
-use Rattle.keeper.specs.declared.Kept.{Kept}
-use Rattle.keeper.specs.Kept.{onMove, closing, closeKept, advanceMove, advanceKept, retireStep, beginStep, marked, placed}
-use Rattle.keeper.proofs.Acts.{admit-acts, retire-acts, begin-acts, advance-acts}
+use Rattle.mover.specs.declared.Kept.{Kept}
+use Rattle.mover.specs.Kept.{onMove, closing, closeKept, advanceMove, advanceKept, marked, placed}
+use Rattle.mover.proofs.Acts.{advance-acts}
+use Rattle.keeper.specs.Kept.{retireStep, beginStep}
+use Rattle.keeper.proofs.Acts.{admit-acts, retire-acts, begin-acts}
 use Rattle.table.specs.Words.{tableWords, rowsRead}
 use Rattle.table.proofs.FourHolds.{FourHolds, four-after-set, four-after-clear}
 use Rattle.table.proofs.Rows.{row-read, rows-read, clear-marks}

@@ -19,9 +19,10 @@ use Rattle.model.specs.Refusals.{holdsCell}
 use Rattle.model.specs.Steps.{Step, Name, ADMIT, RETIRE, BEGIN, ADVANCE, ATTACH, DETACH, OPEN, DROP, READ, WRITE, GO, REST, UNKNOWN, NOBODY}
 use Rattle.model.specs.Steps.{keeperCodes, clientCodes, stepAt}
 use Rattle.clients.specs.Turns.{clientTurn}
-use Rattle.keeper.specs.declared.Kept.{Kept}
-use Rattle.keeper.specs.declared.Moved.{Moved}
-use Rattle.keeper.specs.Kept.{onMove, closing, closeKept, advanceMove, retireStep, beginStep, admitStep, admitArena}
+use Rattle.mover.specs.declared.Kept.{Kept}
+use Rattle.mover.specs.declared.Moved.{Moved}
+use Rattle.mover.specs.Kept.{onMove, closing, closeKept, advanceMove}
+use Rattle.keeper.specs.Kept.{retireStep, beginStep, admitStep, admitArena}
 use Rattle.table.specs.Words.{rowRead, rowsRead, putRow, putPhase, putSwaps, eachRow, clearMark}
 use Rattle.turns.specs.declared.Told.{Told}
 use Rattle.turns.specs.declared.Numbers.{Numbers}

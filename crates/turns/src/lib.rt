@@ -5,7 +5,7 @@ ghost use lib.ListN.{length, getD};
 ghost use Rattle.model.specs.declared.Answer.the-variants.{Done};
 ghost use Rattle.model.specs.State.{stageOf};
 ghost use Rattle.model.specs.Steps.{keeperCodes, clientCodes, UNKNOWN};
-ghost use Rattle.keeper.specs.Kept.{advanceMove};
+ghost use Rattle.mover.specs.Kept.{advanceMove};
 ghost use Rattle.table.specs.Words.{putRow, putPhase, putSwaps};
 ghost use Rattle.turns.specs.Turns.{toldOf, toldAs, numbersAt, clientLeft, lent, clearIf, keptTurn, keeperTurn, byMove};
 ghost use Rattle.turns.specs.Turns.{going, putTold, hasStep, turnsFrom, LeftDoes, MoveDoes, TurnDoes, RunDoes};
@@ -185,7 +185,7 @@ fn clear_if(table: &mut [u32], clear: bool)
 fn by_move(code: u32, mv: Move, passed: bool) -> bool
     ensures { λ r. ⌜ r ≡ byMove code mv passed ⌝ }
 {
-    code == 4 && !keeper::closes(mv, passed)
+    code == 4 && !mover::closes(mv, passed)
 }
 
 // 4 ADVANCE on the move alone.
@@ -193,7 +193,7 @@ fn advance(arena: &mut [u32], table: &mut [u32], mv: Move, passed: bool) -> Movi
     ensures { λ r. ⌜ MoveDoes (now (arena .entry)) (now (table .entry)) (now (arena .exit)) (now (table .exit)) r
         (advanceMove (now (arena .entry)) mv passed (stageOf (mv .stage))) ⌝ }
 {
-    let o = keeper::advance(arena, mv, passed);
+    let o = mover::advance(arena, mv, passed);
     let next = o.mv;
     let change = o.change;
     let answer = o.answer;
@@ -203,7 +203,7 @@ fn advance(arena: &mut [u32], table: &mut [u32], mv: Move, passed: bool) -> Movi
 }
 
 // What a keeper's step on the whole control record leaves, stored.
-fn put_kept(arena: &mut [u32], table: &mut [u32], kept: keeper::Kept) -> Turned
+fn put_kept(arena: &mut [u32], table: &mut [u32], kept: mover::Kept) -> Turned
     ensures { λ r. ⌜ TurnDoes (now (arena .exit)) (now (table .exit)) r
         (keptTurn (lent (kept .control) (now (arena .entry)) (now (table .entry))) kept) ⌝ }
 {
@@ -241,7 +241,7 @@ fn keep(control: Control, arena: &mut [u32], table: &mut [u32], code: u32, a: u3
             put_kept(arena, table, o)
         }
         4 => {
-            let o = keeper::close(control, arena);
+            let o = mover::close(control, arena);
             put_kept(arena, table, o)
         }
         _ => Turned {

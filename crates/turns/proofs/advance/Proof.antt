@@ -3,7 +3,7 @@ use denote.Ref.{now}
 use borrow.Author.Needs.{needs}
 use mathlib.Core.Path.{ap, _∙_}
 use Rattle.model.specs.ClientSteps.{changed}
-use Rattle.keeper.specs.declared.Moved.{Moved}
+use Rattle.mover.specs.declared.Moved.{Moved}
 use Rattle.turns.specs.Turns.{clearIf}
 use Rattle.turns.proofs.advance.Statement.{statement}
 use Rattle.turns.proofs.advance.Tie as tie
