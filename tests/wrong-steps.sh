@@ -2,8 +2,15 @@
 # The "Errors that look reasonable", and other wrong readings of a step, each put into the definitions: the theorems of `demands` must
 # refuse it. (A must-fail edit stays within its crate; here the definitions are in `model` and what refuses them in `demands`.) Laws of
 # single steps that would refuse most of them already, and that the theorems do not use, are left out, so that the theorems have to.
+# With an edit it tries that one, else all of tests/wrong-steps.
 set -euo pipefail
 cd "$(dirname "${BASH_SOURCE[0]}")/.."
+
+if [ $# -eq 0 ]; then
+    printf '%s\n' tests/wrong-steps/*.edit | xargs -P "$(nproc)" -n 1 tests/wrong-steps.sh
+    exit
+fi
+edit=$1
 
 work=$(mktemp -d)
 trap 'rm -rf "$work"' EXIT
@@ -30,30 +37,27 @@ apply() { # EDIT: its replacements in the copy
     done <"$1"
 }
 
-for edit in tests/wrong-steps/*.edit; do
-    label=$(basename "$edit" .edit)
-    rm -rf "$work/crates"
-    mkdir -p "$work/crates"
-    cp -R crates/model crates/demands "$work/crates/"
-    printf 'model:\ndemands: model\n' >"$work/crates.txt"
-    for law in Effects Answered; do
-        rm "$work/crates/model/proofs/$law.antt"
-        replace "$work/crates/model/proofs/Lib.antt" "pub mod $law
+label=$(basename "$edit" .edit)
+mkdir -p "$work/crates"
+cp -R crates/model crates/demands "$work/crates/"
+printf 'model:\ndemands: model\n' >"$work/crates.txt"
+for law in Effects Answered; do
+    rm "$work/crates/model/proofs/$law.antt"
+    replace "$work/crates/model/proofs/Lib.antt" "pub mod $law
 " ''
-    done
-    apply "$edit"
-    log=$work/$label.log
-    if (cd "$work" && rt check demands) >"$log" 2>&1; then
-        echo "$label: NOT REFUSED: demands is still proved"
-        exit 1
-    fi
-    # what fails by itself, and not because something before it failed
-    failed=$(grep -E 'crates/demands/proofs/[A-Za-z]+\.antt:[0-9]+:[0-9]+: error: ' "$log" | grep -v 'was not admitted' |
-        sed -E 's/.*proofs\/([A-Za-z]+)\.antt:[0-9:]+ error: `([^`]+)`.*/\1 \2/' | sort -u | paste -sd, || true)
-    if ! grep -q '^rt: model proved' "$log" || [ -z "$failed" ]; then
-        echo "$label: refused, but not by a theorem of demands:"
-        grep -m 3 -E 'error|rt:' "$log" || tail -n 3 "$log"
-        exit 1
-    fi
-    echo "$label: refused, as it must be, by ${failed//,/, }"
 done
+apply "$edit"
+log=$work/$label.log
+if (cd "$work" && rt check demands) >"$log" 2>&1; then
+    echo "$label: NOT REFUSED: demands is still proved"
+    exit 1
+fi
+# what fails by itself, and not because something before it failed
+failed=$(grep -E 'crates/demands/proofs/[A-Za-z]+\.antt:[0-9]+:[0-9]+: error: ' "$log" | grep -v 'was not admitted' |
+    sed -E 's/.*proofs\/([A-Za-z]+)\.antt:[0-9:]+ error: `([^`]+)`.*/\1 \2/' | sort -u | paste -sd, || true)
+if ! grep -q '^rt: model proved' "$log" || [ -z "$failed" ]; then
+    echo "$label: refused, but not by a theorem of demands:"
+    grep -m 3 -E 'error|rt:' "$log" || tail -n 3 "$log"
+    exit 1
+fi
+echo "$label: refused, as it must be, by ${failed//,/, }"
