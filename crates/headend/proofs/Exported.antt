@@ -18,7 +18,7 @@ use Rattle.table.specs.Words.{tableWords}
 use Rattle.wire.specs.Bytes.{allBytes}
 use Rattle.archive.specs.declared.Reply.{Reply}
 use Rattle.archive.specs.Does.{isRefused, wordsAfter, CallDoes, RunDoes}
-use Rattle.headend.specs.Buffer.{stateIn, bytesIn, bytesOf}
+use Rattle.buffer.specs.Buffer.{stateIn, bytesIn, bytesOf}
 use Rattle.headend.specs.Exported.{coded, wrongBuffer, kept, called, exported, runBytesFit, runOn, ranBytes, runBytes, CallGives}
 use Rattle.headend.specs.Exported.{Finishes, RunGives}
 

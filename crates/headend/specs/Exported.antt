@@ -13,7 +13,7 @@ use Rattle.model.specs.Refusals.{_if_, refuse}
 use Rattle.model.specs.Steps.{Step, refused, freshCall, stepCall, fillCall, auditCall, runCall, Ran, ran}
 use Rattle.wire.specs.Bytes.{numbers, allBytes}
 use Rattle.archive.specs.Does.{isRefused}
-use Rattle.headend.specs.Buffer.{bufferSize, stateIn, bytesOf}
+use Rattle.buffer.specs.Buffer.{bufferSize, stateIn, bytesOf}
 
 -- answer and value in one number
 unfoldable pub coded : Answer → ℕ

@@ -1,112 +1,19 @@
-// The exported form for the C head-end: control record, arena and client table in one buffer of bytes (docs/LAYOUT.md).
-// Decides nothing itself: it decodes, calls the archive, and encodes what an accepted call leaves.
+// The exported form for the C head-end: the calls on one buffer of bytes.
+// Decides nothing itself: it has the buffer decoded, calls the archive, and has what an accepted call leaves encoded.
 ghost use mathlib.Core.Path.{_≡_};
 ghost use Prim.Native.Nat.{_*_};
 ghost use lib.ListN.{length};
-ghost use Rattle.model.specs.Arena.{laid};
 ghost use Rattle.model.specs.Steps.{step};
 ghost use Rattle.wire.specs.Bytes.{allBytes};
-ghost use Rattle.archive.specs.Does.{meant, isRefused};
-ghost use Rattle.headend.specs.Buffer.{moveIn, controlIn, joined, moveParts, countParts, controlParts, bytesIn, stateIn};
+ghost use Rattle.archive.specs.Does.{isRefused};
+ghost use Rattle.buffer.specs.Buffer.{bytesIn};
 ghost use Rattle.headend.specs.Exported.{coded, kept, freshBytes, stepBytes, fillResult, auditResult, runBytesFit, runOn, runBytes};
 ghost use Rattle.headend.specs.Exported.{ranBytes, CallGives, RunGives, Finishes};
 use model::Answer;
 use model::Control;
-use model::Move;
 
 // One fixed size in bytes: control record 668, arena 4 × 8,192, table 8 × 48.
 const BUFFER: usize = 33820;
-
-// "the move in hand (stage, meter, old cell called from, target cell, words copied ..)", from its 16 bytes.
-fn move_in(b: &[u8]) -> Move
-    requires { ⌜ length (now b) ≡ 33820 ⌝ }
-    ensures { λ r. ⌜ r ≡ moveIn (now (b .entry)) ⌝ }
-{
-    Move {
-        stage: wire::get4(b, 640),
-        meter: wire::get4(b, 644),
-        from: wire::get2(b, 648),
-        target: wire::get2(b, 650),
-        copied: wire::get4(b, 652),
-    }
-}
-
-// The control record: directory, map, move and counts, one behind the other.
-fn control_in(b: &[u8]) -> Control
-    requires { ⌜ length (now b) ≡ 33820 ⌝ }
-    ensures { λ r. ⌜ r ≡ controlIn (now (b .entry)) ⌝ }
-{
-    let dir = wire::halves_in(b, 0);
-    let map = wire::longs_in(b, 512);
-    let mv = move_in(b);
-    let begun = wire::get4(b, 656);
-    let committed = wire::get4(b, 660);
-    let aborted = wire::get4(b, 664);
-    Control {
-        dir,
-        map,
-        mv,
-        begun,
-        committed,
-        aborted,
-    }
-}
-
-// The move in hand, into its 16 bytes.
-fn move_out(b: &mut [u8], mv: Move)
-    requires { ⌜ length (now b) ≡ 33820 ⌝ }
-    ensures { λ r. ⌜ now (b .exit) ≡ laid (now (b .entry)) 640 (joined (moveParts mv)) ⌝ }
-{
-    wire::put4(b, 640, mv.stage);
-    wire::put4(b, 644, mv.meter);
-    wire::put2(b, 648, mv.from);
-    wire::put2(b, 650, mv.target);
-    wire::put4(b, 652, mv.copied);
-}
-
-// "the counts begun, committed, aborted (32 bits)", into their 12 bytes.
-fn counts_out(b: &mut [u8], control: Control)
-    requires { ⌜ length (now b) ≡ 33820 ⌝ }
-    ensures { λ r. ⌜ now (b .exit) ≡ laid (now (b .entry)) 656 (joined (countParts control)) ⌝ }
-{
-    wire::put4(b, 656, control.begun);
-    wire::put4(b, 660, control.committed);
-    wire::put4(b, 664, control.aborted);
-}
-
-// The control record, into its 668 bytes.
-fn control_out(b: &mut [u8], control: Control)
-    requires { ⌜ length (now b) ≡ 33820 ⌝ }
-    ensures { λ r. ⌜ now (b .exit) ≡ laid (now (b .entry)) 0 (joined (controlParts control)) ⌝ }
-{
-    let dir = control.dir;
-    let map = control.map;
-    let mv = control.mv;
-    wire::halves_out(b, 0, dir);
-    wire::longs_out(b, 512, map);
-    move_out(b, mv);
-    counts_out(b, control);
-}
-
-// Every byte of the buffer.
-fn state_out(b: &mut [u8], control: Control, arena: &[u32], table: &[u32])
-    requires { ⌜ (length (now b) ≡ 33820) × (length (now arena) ≡ 8192) × (length (now table) ≡ 96) ⌝ }
-    ensures { λ r. ⌜ now (b .exit) ≡ bytesIn control (now (arena .entry)) (now (table .entry)) ⌝ }
-{
-    control_out(b, control);
-    wire::words_out(b, 668, arena);
-    wire::words_out(b, 33436, table);
-}
-
-// What the buffer means: arena and table into words, the control record by value.
-fn state_in(b: &[u8], arena: &mut [u32], table: &mut [u32]) -> Control
-    requires { ⌜ (length (now b) ≡ 33820) × (length (now arena) ≡ 8192) × (length (now table) ≡ 96) ⌝ }
-    ensures { λ r. ⌜ meant r (now (arena .exit)) (now (table .exit)) ≡ stateIn (now (b .entry)) ⌝ }
-{
-    wire::words_in(b, 668, arena);
-    wire::words_in(b, 33436, table);
-    control_in(b)
-}
 
 // Answer and value in one number: answer × 2^32 + value.
 fn coded(answer: Answer) -> u64
@@ -133,7 +40,7 @@ fn finish(b: &mut [u8], control: Control, arena: &[u32], table: &[u32], answer: 
     if is_refused(answer) {
         return coded(answer);
     }
-    state_out(b, control, arena, table);
+    buffer::state_out(b, control, arena, table);
     coded(answer)
 }
 
@@ -147,7 +54,7 @@ pub extern "C" fn tangvrak_fresh(buffer: &mut [u8]) -> u64
     }
     let mut arena = [0u32; 8192];
     let mut table = [0u32; 96];
-    let was = state_in(buffer, &mut arena, &mut table);
+    let was = buffer::state_in(buffer, &mut arena, &mut table);
     let o = archive::fresh(was, &mut arena, &mut table);
     let control = o.control;
     let answer = o.answer;
@@ -171,7 +78,7 @@ pub extern "C" fn tangvrak_step(
     }
     let mut arena = [0u32; 8192];
     let mut table = [0u32; 96];
-    let was = state_in(buffer, &mut arena, &mut table);
+    let was = buffer::state_in(buffer, &mut arena, &mut table);
     let o = archive::step(was, &mut arena, &mut table, who, code, a, b, v);
     let control = o.control;
     let answer = o.answer;
@@ -188,7 +95,7 @@ pub extern "C" fn tangvrak_fill(buffer: &[u8]) -> u64
     }
     let mut arena = [0u32; 8192];
     let mut table = [0u32; 96];
-    let control = state_in(buffer, &mut arena, &mut table);
+    let control = buffer::state_in(buffer, &mut arena, &mut table);
     let o = archive::fill(control, &arena, &table);
     let answer = o.answer;
     coded(answer)
@@ -204,7 +111,7 @@ pub extern "C" fn tangvrak_audit(buffer: &[u8]) -> u64
     }
     let mut arena = [0u32; 8192];
     let mut table = [0u32; 96];
-    let control = state_in(buffer, &mut arena, &mut table);
+    let control = buffer::state_in(buffer, &mut arena, &mut table);
     let o = archive::audit(control, &arena, &table);
     let answer = o.answer;
     coded(answer)
@@ -250,7 +157,7 @@ fn run_words(
 {
     let mut arena = [0u32; 8192];
     let mut table = [0u32; 96];
-    let was = state_in(buffer, &mut arena, &mut table);
+    let was = buffer::state_in(buffer, &mut arena, &mut table);
     wire::words_in(steps, 0, words);
     wire::words_in(slots, 0, answers);
     let o = archive::run(was, &mut arena, &mut table, words, answers);

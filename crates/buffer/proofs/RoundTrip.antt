@@ -19,7 +19,7 @@ use Rattle.table.proofs.Rows.{length-words, rows-of-words, words-of-rows, sound
 use Rattle.wire.specs.Bytes.{numbers, allBytes}
 use Rattle.wire.proofs.Bytes.{length-all, length-numbers}
 use Rattle.wire.proofs.RoundTrip.{InBytes, IsByte, numbers-skip, numbers-of-all, all-of-numbers, numbers-one}
-use Rattle.headend.specs.Buffer.{Part, joined, controlParts, moveIn, controlIn, arenaIn, tableIn, stateIn, bytesIn, bytesOf}
+use Rattle.buffer.specs.Buffer.{Part, joined, controlParts, moveIn, controlIn, arenaIn, tableIn, stateIn, bytesIn, bytesOf}
 
 -- docs/LAYOUT.md: how many bytes a number has, and how many numbers
 abbrev Room : Type 0

@@ -1,8 +1,8 @@
--- `headend::move_in` meets its contract: five numbers at their places. Assumes nothing.
+-- `buffer::move_in` meets its contract: five numbers at their places. Assumes nothing.
 use borrow.Author.Needs.{needs}
-use Rattle.headend.specs.Buffer.{moveIn}
-use Rattle.headend.proofs.move_in.Statement.{statement}
-use Rattle.headend.proofs.move_in.Tie as tie
+use Rattle.buffer.specs.Buffer.{moveIn}
+use Rattle.buffer.proofs.move_in.Statement.{statement}
+use Rattle.buffer.proofs.move_in.Tie as tie
 
 get4-requires : tie.Need-get4-requires
 get4-requires c κs = search needs

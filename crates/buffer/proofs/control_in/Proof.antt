@@ -1,8 +1,8 @@
--- `headend::control_in` meets its contract: directory, map, move and counts at their places. Assumes nothing.
+-- `buffer::control_in` meets its contract: directory, map, move and counts at their places. Assumes nothing.
 use borrow.Author.Needs.{needs}
-use Rattle.headend.specs.Buffer.{controlIn}
-use Rattle.headend.proofs.control_in.Statement.{statement}
-use Rattle.headend.proofs.control_in.Tie as tie
+use Rattle.buffer.specs.Buffer.{controlIn}
+use Rattle.buffer.proofs.control_in.Statement.{statement}
+use Rattle.buffer.proofs.control_in.Tie as tie
 
 halves-in-requires : tie.Need-halves-in-requires
 halves-in-requires c κs = search needs

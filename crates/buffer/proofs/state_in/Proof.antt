@@ -1,8 +1,8 @@
--- `headend::state_in` meets its contract: the words of arena and table, and the control record, are what the bytes mean. Assumes nothing.
+-- `buffer::state_in` meets its contract: the words of arena and table, and the control record, are what the bytes mean. Assumes nothing.
 use borrow.Author.Needs.{needs}
-use Rattle.headend.specs.Buffer.{stateIn}
-use Rattle.headend.proofs.state_in.Statement.{statement}
-use Rattle.headend.proofs.state_in.Tie as tie
+use Rattle.buffer.specs.Buffer.{stateIn}
+use Rattle.buffer.proofs.state_in.Statement.{statement}
+use Rattle.buffer.proofs.state_in.Tie as tie
 
 words-in-requires : tie.Need-words-in-requires
 words-in-requires c κs = search needs

@@ -1,4 +1,4 @@
--- `headend::control_out` meets its contract: directory, map, move and counts, one behind the other. Assumes nothing.
+-- `buffer::control_out` meets its contract: directory, map, move and counts, one behind the other. Assumes nothing.
 use mathlib.Core.Path.{_≡_, sym, ap, _∙_}
 use mathlib.Core.List.{List, _++_}
 use Prim.Native.Nat.{ℕ}
@@ -9,10 +9,10 @@ use borrow.Author.Needs.{needs, length-unmapped}
 use Rattle.model.specs.Arena.{laid}
 use Rattle.wire.specs.Bytes.{allBytes}
 use Rattle.wire.proofs.Bytes.{length-all}
-use Rattle.headend.specs.Buffer.{joined, moveParts, countParts}
-use Rattle.headend.proofs.Parts.{length-joined, joined-append, laid-behind}
-use Rattle.headend.proofs.control_out.Statement.{statement}
-use Rattle.headend.proofs.control_out.Tie as tie
+use Rattle.buffer.specs.Buffer.{joined, moveParts, countParts}
+use Rattle.buffer.proofs.Parts.{length-joined, joined-append, laid-behind}
+use Rattle.buffer.proofs.control_out.Statement.{statement}
+use Rattle.buffer.proofs.control_out.Tie as tie
 
 halves-out-requires : tie.Need-halves-out-requires
 halves-out-requires c κs = search needs

@@ -1,4 +1,4 @@
--- `headend::state_out` meets its contract: control record, arena and table, one behind the other, are all of the buffer. Assumes nothing.
+-- `buffer::state_out` meets its contract: control record, arena and table, one behind the other, are all of the buffer. Assumes nothing.
 use mathlib.Core.Path.{_≡_, sym, ap, _∙_}
 use mathlib.Core.List.{List, [], _∷_, _++_, append-nil}
 use Prim.Native.Nat.{ℕ}
@@ -10,10 +10,10 @@ use Rattle.model.specs.Arena.{laid}
 use Rattle.model.proofs.Records.{laid-all}
 use Rattle.wire.specs.Bytes.{allBytes}
 use Rattle.wire.proofs.Bytes.{length-all}
-use Rattle.headend.specs.Buffer.{Part, joined, controlParts, bytesIn}
-use Rattle.headend.proofs.Parts.{length-joined, joined-append, laid-behind}
-use Rattle.headend.proofs.state_out.Statement.{statement}
-use Rattle.headend.proofs.state_out.Tie as tie
+use Rattle.buffer.specs.Buffer.{Part, joined, controlParts, bytesIn}
+use Rattle.buffer.proofs.Parts.{length-joined, joined-append, laid-behind}
+use Rattle.buffer.proofs.state_out.Statement.{statement}
+use Rattle.buffer.proofs.state_out.Tie as tie
 
 control-out-requires : tie.Need-control-out-requires
 control-out-requires c κs = search needs

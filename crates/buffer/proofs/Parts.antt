@@ -9,7 +9,7 @@ use Rattle.model.proofs.Records.{laid-none}
 use Rattle.wire.specs.Bytes.{bytes, allBytes}
 use Rattle.wire.proofs.Bytes.{length-all, length-bytes, all-one}
 use Rattle.wire.proofs.Laid.{laid-append}
-use Rattle.headend.specs.Buffer.{Part, joined}
+use Rattle.buffer.specs.Buffer.{Part, joined}
 
 -- the bytes of some parts
 abbrev pub size : List Part → ℕ
