@@ -112,7 +112,7 @@ fn state_in(b: &[u8], arena: &mut [u32], table: &mut [u32]) -> Control
 fn coded(answer: Answer) -> u64
     ensures { λ r. ⌜ r ≡ coded answer ⌝ }
 {
-    let told = turns::tell(answer);
+    let told = answers::tell(answer);
     (told.number as u64) * 4294967296 + (told.value as u64)
 }
 
@@ -120,7 +120,7 @@ fn coded(answer: Answer) -> u64
 fn is_refused(answer: Answer) -> bool
     ensures { λ r. ⌜ r ≡ isRefused answer ⌝ }
 {
-    let told = turns::tell(answer);
+    let told = answers::tell(answer);
     told.number < 20
 }
 
