@@ -24,9 +24,10 @@ use Rattle.model.proofs.Refusals.{refused-by-given, accepted-by-given}
 use Rattle.model.proofs.Answered.{Answered, answered}
 use Rattle.table.specs.Words.{tableWords, rowsOf, eachRow, freshen}
 use Rattle.table.proofs.Rows.{fresh-rows}
-use Rattle.turns.specs.declared.Turned.{Turned}
-use Rattle.turns.specs.Turns.{Lent, lent, going, turnsFrom, RunDoes}
-use Rattle.turns.proofs.Acts.{lentOf}
+use Rattle.acts.specs.declared.Turned.{Turned}
+use Rattle.acts.specs.Acts.{Lent, lent}
+use Rattle.acts.proofs.Acts.{lentOf}
+use Rattle.turns.specs.Runs.{going, turnsFrom, RunDoes}
 use Rattle.turns.proofs.Runs.{Went, run-steps, run-one}
 use Rattle.archive.specs.declared.Reply.{Reply}
 use Rattle.archive.specs.Does.{meant, wordsAfter, CallDoes, LookDoes, callRefusals, refusalOf, rightSizes}

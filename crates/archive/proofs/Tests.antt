@@ -19,7 +19,7 @@ use Rattle.model.proofs.Readings.{says-R6, sound-of}
 use Rattle.table.specs.Words.{tableWords, rowsOf}
 use Rattle.table.proofs.FourHolds.{four-rows-of}
 use Rattle.table.proofs.Rows.{length-rows, no-rows, sound-words}
-use Rattle.turns.proofs.Acts.{Rows}
+use Rattle.acts.proofs.Acts.{Rows}
 use Rattle.archive.specs.Does.{meant, refusalOf, rightSizes}
 
 -- "table not eight rows"

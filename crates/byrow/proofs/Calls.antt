@@ -15,7 +15,7 @@ use Rattle.model.specs.Steps.{stepsOf, runSizes}
 use Rattle.model.proofs.Refusals.{unless-refused}
 use Rattle.model.proofs.Answered.{answered}
 use Rattle.table.proofs.FourHolds.{four-fresh}
-use Rattle.turns.proofs.Acts.{Rows, acts}
+use Rattle.acts.proofs.Acts.{Rows, acts}
 use Rattle.archive.specs.Does.{isRefused}
 
 -- 1 "table not eight rows"

@@ -19,7 +19,7 @@ const BUFFER: usize = 33820;
 fn coded(answer: Answer) -> u64
     ensures { λ r. ⌜ r ≡ coded answer ⌝ }
 {
-    let told = turns::tell(answer);
+    let told = answers::tell(answer);
     (told.number as u64) * 4294967296 + (told.value as u64)
 }
 
@@ -27,7 +27,7 @@ fn coded(answer: Answer) -> u64
 fn is_refused(answer: Answer) -> bool
     ensures { λ r. ⌜ r ≡ isRefused answer ⌝ }
 {
-    let told = turns::tell(answer);
+    let told = answers::tell(answer);
     told.number < 20
 }
 

@@ -91,7 +91,7 @@ fn play_step(
     let reply = archive::step(control, arena, table, s.who, s.code, s.a, s.b, s.v);
     let next = reply.control;
     let answer = reply.answer;
-    let told = turns::tell(answer);
+    let told = answers::tell(answer);
     let end = script::printing::put_pair(out, at, told.number, told.value);
     Played {
         control: next,

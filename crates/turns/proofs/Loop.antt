@@ -13,7 +13,9 @@ use Rattle.model.specs.declared.Control.{Control}
 use Rattle.model.specs.Choice.{_and_}
 use Rattle.model.specs.Steps.{Step, stepAt}
 use Rattle.model.proofs.Choice.{and-parts}
-use Rattle.turns.specs.Turns.{Lent, lent, Turn, turnOn, Going, going, toldAs, putTold, hasStep, after, turnsFrom}
+use Rattle.answers.specs.Answers.{toldAs}
+use Rattle.acts.specs.Acts.{Lent, lent, Turn, turnOn}
+use Rattle.turns.specs.Runs.{Going, going, putTold, hasStep, after, turnsFrom}
 
 -- whether there is a step i
 pub step-there : (words slots i : ℕ) → i < 4096 → 5 * i + 4 < words → 2 * i + 1 < slots → hasStep words slots i ≡ true

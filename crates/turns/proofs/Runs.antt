@@ -10,10 +10,11 @@ use Rattle.model.specs.Arena.{laid}
 use Rattle.model.specs.State.{State, Outcome, number, value}
 use Rattle.model.specs.Steps.{Step, act, Ran, then, oneByOne, stepAt, stepsFrom}
 use Rattle.model.proofs.Records.{laid-none, laid-first}
-use Rattle.turns.specs.Turns.{Going, going, toldAs, putTold, after, turnsFrom}
+use Rattle.answers.specs.declared.Told.{Told}
+use Rattle.answers.specs.Answers.{toldAs}
+use Rattle.acts.proofs.Acts.{lentOf, Rows, Acts, acts}
+use Rattle.turns.specs.Runs.{Going, going, putTold, after, turnsFrom}
 use Rattle.turns.proofs.Loop.{step-there, turns-next, turns-end}
-use Rattle.turns.specs.declared.Told.{Told}
-use Rattle.turns.proofs.Acts.{lentOf, Rows, Acts, acts}
 
 -- an answer in its slot, and those behind it
 slot-laid : (slots : List ℕ) (i x y : ℕ) (rest : List ℕ)

@@ -3,7 +3,7 @@ use mathlib.Core.Path.{ap, _∙_}
 use denote.Ref.{now}
 use mir.Syntax.{w32}
 use mir.Val.{Fits}
-use Rattle.turns.specs.declared.Told.{Told}
+use Rattle.answers.specs.declared.Told.{Told}
 use Rattle.script.specs.Printing.{Page, page, written, line2}
 use Rattle.play.proofs.Steps.{step-plays}
 use borrow.Author.Needs.{needs}

@@ -1,7 +1,7 @@
 -- `turns::has_step` meets its contract, by its three tests. Assumes nothing.
 use borrow.Author.Needs.{needs}
 use borrow.Author.Tests.{lt-ltb, le-ltb}
-use Rattle.turns.specs.Turns.{hasStep}
+use Rattle.turns.specs.Runs.{hasStep}
 use Rattle.turns.proofs.has_step.Statement.{statement}
 use Rattle.turns.proofs.has_step.Tie as tie
 

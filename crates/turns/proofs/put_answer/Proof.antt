@@ -1,6 +1,6 @@
 -- `turns::put_answer` meets its contract: two words stored. Assumes nothing.
 use borrow.Author.Needs.{needs}
-use Rattle.turns.specs.Turns.{putTold}
+use Rattle.turns.specs.Runs.{putTold}
 use Rattle.turns.proofs.put_answer.Statement.{statement}
 use Rattle.turns.proofs.put_answer.Tie as tie
 

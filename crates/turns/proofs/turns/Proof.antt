@@ -9,9 +9,10 @@ use native.Mathlib.Omega.{arith}
 use lib.ListN.{length}
 use Rattle.model.specs.State.{withMove}
 use Rattle.model.specs.Steps.{stepAt}
-use Rattle.turns.specs.Turns.{lent, going, turnsFrom}
+use Rattle.acts.specs.Acts.{lent}
+use Rattle.acts.proofs.Names.{turn-by-move, turn-by-keeper, turn-by-client, turn-by-nobody}
+use Rattle.turns.specs.Runs.{going, turnsFrom}
 use Rattle.turns.proofs.Loop.{Took, took-by, step-below, turns-stop, turns-more}
-use Rattle.turns.proofs.Names.{turn-by-move, turn-by-keeper, turn-by-client, turn-by-nobody}
 use Rattle.turns.proofs.turns.Statement.{statement}
 use Rattle.turns.proofs.turns.Tie as tie
 

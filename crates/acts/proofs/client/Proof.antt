@@ -1,14 +1,14 @@
--- `turns::client` meets its contract: the code's match picks the step by its name (proofs/Names), and what it changes is
+-- `acts::client` meets its contract: the code's match picks the step by its name (proofs/Names), and what it changes is
 -- stored. Assumes nothing.
 use denote.Ref.{now}
 use borrow.Author.Needs.{needs}
 use mathlib.Core.Path.{refl}
 use Prim.Native.Nat.{_≤_, _<_}
 use native.Mathlib.Omega.{arith}
-use Rattle.turns.specs.Turns.{clientLeft}
-use Rattle.turns.proofs.Names.{left-via, unknown-below, unknown-above, access-left}
-use Rattle.turns.proofs.client.Statement.{statement}
-use Rattle.turns.proofs.client.Tie as tie
+use Rattle.acts.specs.Acts.{clientLeft}
+use Rattle.acts.proofs.Names.{left-via, unknown-below, unknown-above, access-left}
+use Rattle.acts.proofs.client.Statement.{statement}
+use Rattle.acts.proofs.client.Tie as tie
 
 row-at-requires : tie.Need-row-at-requires
 row-at-requires c κs = search needs

@@ -1,11 +1,11 @@
--- What a step, and a run of steps, does to the control record and to the lent words of arena and table: on any contents.
+-- What a step does to the control record and to the lent words of arena and table: on any contents.
 -- proofs/Acts joins these to the model's steps, on the words of rows.
 use mathlib.Core.Bool.{Bool, true, false, not}
 use mathlib.Core.List.{List}
 use mathlib.Core.Path.{_≡_}
-use Prim.Native.Nat.{ℕ, zero, suc, _+_, _*_}
+use Prim.Native.Nat.{ℕ, zero, suc}
 use lib.Dec.{eqb, ltb}
-use lib.ListN.{length, getD, set}
+use lib.ListN.{getD}
 use Rattle.model.specs.declared.Control.{Control}
 use Rattle.model.specs.declared.Move.{Move}
 use Rattle.model.specs.declared.Answer.{Answer}
@@ -13,33 +13,19 @@ use Rattle.model.specs.declared.Answer.the-variants.{Refused}
 use Rattle.model.specs.declared.Stepped.{Stepped}
 use Rattle.model.specs.Choice.{pick, _and_, any}
 use Rattle.model.specs.Rows.{allPassed}
-use Rattle.model.specs.State.{stageOf, entry, number, value}
+use Rattle.model.specs.State.{stageOf, entry}
 use Rattle.model.specs.ClientSteps.{changed}
 use Rattle.model.specs.Refusals.{holdsCell}
 use Rattle.model.specs.Steps.{Step, Name, ADMIT, RETIRE, BEGIN, ADVANCE, ATTACH, DETACH, OPEN, DROP, READ, WRITE, GO, REST, UNKNOWN, NOBODY}
-use Rattle.model.specs.Steps.{keeperCodes, clientCodes, stepAt}
+use Rattle.model.specs.Steps.{keeperCodes, clientCodes}
 use Rattle.clients.specs.Turns.{clientTurn}
 use Rattle.mover.specs.declared.Kept.{Kept}
 use Rattle.mover.specs.declared.Moved.{Moved}
 use Rattle.mover.specs.Kept.{onMove, closing, closeKept, advanceMove}
 use Rattle.keeper.specs.Kept.{retireStep, beginStep, admitStep, admitArena}
 use Rattle.table.specs.Words.{rowRead, rowsRead, putRow, putPhase, putSwaps, eachRow, clearMark}
-use Rattle.turns.specs.declared.Told.{Told}
-use Rattle.turns.specs.declared.Numbers.{Numbers}
-use Rattle.turns.specs.declared.Moving.{Moving}
-use Rattle.turns.specs.declared.Turned.{Turned}
-
--- 01's number and value of an answer
-abbrev pub toldOf : ℕ → ℕ → Told
-toldOf n x = record { number = n; value = x }
-
-abbrev pub toldAs : Answer → Told
-toldAs x = toldOf (number x) (value x)
-
--- "five words each": the numbers of step i
-abbrev pub numbersAt : List ℕ → ℕ → Numbers
-numbersAt ws i =
-    record { who = stepAt ws i .who; code = stepAt ws i .code; a = stepAt ws i .a; b = stepAt ws i .b; v = stepAt ws i .v }
+use Rattle.acts.specs.declared.Moving.{Moving}
+use Rattle.acts.specs.declared.Turned.{Turned}
 
 -- A client's step: arena and table after it, and the answer
 pub record Left : Type 0 where
@@ -136,32 +122,6 @@ partyTurn (suc i) l t =
 unfoldable pub turnOn : Lent → Step → Turn
 turnOn l t = partyTurn (t .who) l t
 
--- A run: what is lent, the answer slots, and the last answer
-pub record Going : Type 0 where
-  pub lent : Lent
-  pub slots : List ℕ
-  pub last : Answer
-
-abbrev pub going : Lent → List ℕ → Answer → Going
-going l slots x = record { lent = l; slots = slots; last = x }
-
--- "a two-word answer slot for each"
-unfoldable pub putTold : List ℕ → ℕ → Told → List ℕ
-putTold slots i x = set (set slots (2 * i) (x .number)) (2 * i + 1) (x .value)
-
--- there is a step i, and a slot for it, among the 4,096
-unfoldable pub hasStep : ℕ → ℕ → ℕ → Bool
-hasStep words slots i = ltb i 4096 and ltb (5 * i + 4) words and ltb (2 * i + 1) slots
-
-abbrev pub after : ℕ → Going → Turn → Going
-after i g o = going (o .next) (putTold (g .slots) i (toldAs (o .answer))) (o .answer)
-
--- the steps from i on, as many as there are of the next n
-unfoldable pub turnsFrom : List ℕ → ℕ → ℕ → Going → Going
-turnsFrom ws i zero g = g
-turnsFrom ws i (suc n) g =
-    pick (hasStep (length ws) (length (g .slots)) i) (turnsFrom ws (suc i) n (after i g (turnOn (g .lent) (stepAt ws i)))) g
-
 -- What the functions do
 pub record LeftDoes (a t : List ℕ) (r : Answer) (o : Left) : Type 0 where
   pub arena : a ≡ o .arena
@@ -178,9 +138,3 @@ pub record TurnDoes (a t : List ℕ) (r : Turned) (o : Turn) : Type 0 where
   pub arena : a ≡ o .next .arena
   pub table : t ≡ o .next .table
   pub result : r ≡ record { control = o .next .control; answer = o .answer }
-
-pub record RunDoes (a t s : List ℕ) (r : Turned) (g : Going) : Type 0 where
-  pub arena : a ≡ g .lent .arena
-  pub table : t ≡ g .lent .table
-  pub slots : s ≡ g .slots
-  pub result : r ≡ record { control = g .lent .control; answer = g .last }

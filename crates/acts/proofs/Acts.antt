@@ -29,8 +29,8 @@ use Rattle.keeper.proofs.Acts.{admit-acts, retire-acts, begin-acts}
 use Rattle.table.specs.Words.{tableWords, rowsRead}
 use Rattle.table.proofs.FourHolds.{FourHolds, four-after-set, four-after-clear}
 use Rattle.table.proofs.Rows.{row-read, rows-read, clear-marks}
-use Rattle.turns.specs.Turns.{Left, clientLeft, Lent, lent, Turn, turn, clearIf, keptTurn, byMove, turnOn}
-use Rattle.turns.proofs.Keeps.{client-stored, client-four}
+use Rattle.acts.specs.Acts.{Left, clientLeft, Lent, lent, Turn, turn, clearIf, keptTurn, byMove, turnOn}
+use Rattle.acts.proofs.Keeps.{client-stored, client-four}
 
 -- a state as it is lent, and an outcome
 abbrev pub lentOf : State → Lent

@@ -17,8 +17,8 @@ use Rattle.model.proofs.Choice.{sides, same-or-not}
 use Rattle.clients.specs.Turns.{accessTurn}
 use Rattle.clients.proofs.Acts.{code-below, code-above}
 use Rattle.table.specs.Words.{rowRead, putPhase}
-use Rattle.turns.specs.Turns.{Left, left, clientLeft, LeftDoes, Lent, lent, Turn, turn, keeperTurn, passedAll, byMove, moveTurn}
-use Rattle.turns.specs.Turns.{partyTurn, turnOn}
+use Rattle.acts.specs.Acts.{Left, left, clientLeft, LeftDoes, Lent, lent, Turn, turn, keeperTurn, passedAll, byMove, moveTurn}
+use Rattle.acts.specs.Acts.{partyTurn, turnOn}
 
 pub left-via : {a t : List ℕ} {r : Answer} {o p : Left} → o ≡ p → LeftDoes a t r p → LeftDoes a t r o
 left-via e d = rw e d

@@ -1,9 +1,9 @@
--- `turns::by_move` meets its contract, by the code and the stage. Assumes nothing.
+-- `acts::by_move` meets its contract, by the code and the stage. Assumes nothing.
 use borrow.Author.Needs.{needs}
 use borrow.Author.Tests.{eq-eqb, ne-eqb}
-use Rattle.turns.specs.Turns.{byMove}
-use Rattle.turns.proofs.by_move.Statement.{statement}
-use Rattle.turns.proofs.by_move.Tie as tie
+use Rattle.acts.specs.Acts.{byMove}
+use Rattle.acts.proofs.by_move.Statement.{statement}
+use Rattle.acts.proofs.by_move.Tie as tie
 
 closes-requires : tie.Need-closes-requires
 closes-requires c κs = search needs

@@ -1,7 +1,7 @@
--- `turns::tell` meets its contract, by cases of the answer. Assumes nothing.
+-- `answers::tell` meets its contract, by cases of the answer. Assumes nothing.
 use borrow.Author.Needs.{needs}
-use Rattle.turns.proofs.tell.Statement.{statement}
-use Rattle.turns.proofs.tell.Tie as tie
+use Rattle.answers.proofs.tell.Statement.{statement}
+use Rattle.answers.proofs.tell.Tie as tie
 
 enum-known-answer : tie.Need-enum-known-answer
 enum-known-answer c = search needs

@@ -1,7 +1,7 @@
--- `turns::clear_if` meets its contract: marks are cleared or left. Assumes nothing.
+-- `acts::clear_if` meets its contract: marks are cleared or left. Assumes nothing.
 use borrow.Author.Needs.{needs}
-use Rattle.turns.proofs.clear_if.Statement.{statement}
-use Rattle.turns.proofs.clear_if.Tie as tie
+use Rattle.acts.proofs.clear_if.Statement.{statement}
+use Rattle.acts.proofs.clear_if.Tie as tie
 
 clear-marks-requires : tie.Need-clear-marks-requires
 clear-marks-requires c κs = search needs

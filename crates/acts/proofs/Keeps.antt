@@ -25,7 +25,7 @@ use Rattle.clients.specs.Turns.{turn, refusedTurn, accessTurn, goTurn, clientTu
 use Rattle.table.specs.Words.{tableWords}
 use Rattle.table.proofs.FourHolds.{Four}
 use Rattle.table.proofs.Rows.{put-row, put-phase, put-swaps-phase}
-use Rattle.turns.specs.Turns.{Left, left, stored}
+use Rattle.acts.specs.Acts.{Left, left, stored}
 
 -- what holds of the row as it was, and of the step done
 turn-keeps : (P : Stepped → Type 0) (l : List Refusal) (r : Row) (o : Stepped) → ((n : ℕ) → P (refusedTurn r n)) → P o → P (turn l r o)

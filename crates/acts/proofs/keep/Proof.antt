@@ -1,9 +1,9 @@
--- `turns::keep` meets its contract: the code's match picks the step by its name, and what it leaves is stored. Assumes nothing.
+-- `acts::keep` meets its contract: the code's match picks the step by its name, and what it leaves is stored. Assumes nothing.
 use borrow.Author.Needs.{needs}
 use mathlib.Core.Path.{refl}
-use Rattle.turns.proofs.Names.{unknown-keeper}
-use Rattle.turns.proofs.keep.Statement.{statement}
-use Rattle.turns.proofs.keep.Tie as tie
+use Rattle.acts.proofs.Names.{unknown-keeper}
+use Rattle.acts.proofs.keep.Statement.{statement}
+use Rattle.acts.proofs.keep.Tie as tie
 
 admit-requires : tie.Need-admit-requires
 admit-requires c κs = search needs

@@ -1,12 +1,12 @@
--- `turns::advance` meets its contract: the word and the marks are stored as the move has them. Assumes nothing.
+-- `acts::advance` meets its contract: the word and the marks are stored as the move has them. Assumes nothing.
 use denote.Ref.{now}
 use borrow.Author.Needs.{needs}
 use mathlib.Core.Path.{ap, _∙_}
 use Rattle.model.specs.ClientSteps.{changed}
 use Rattle.mover.specs.declared.Moved.{Moved}
-use Rattle.turns.specs.Turns.{clearIf}
-use Rattle.turns.proofs.advance.Statement.{statement}
-use Rattle.turns.proofs.advance.Tie as tie
+use Rattle.acts.specs.Acts.{clearIf}
+use Rattle.acts.proofs.advance.Statement.{statement}
+use Rattle.acts.proofs.advance.Tie as tie
 
 advance-requires : tie.Need-advance-requires
 advance-requires c κs = search needs

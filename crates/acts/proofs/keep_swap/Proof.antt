@@ -1,8 +1,8 @@
--- `turns::keep_swap` meets its contract: swaps, then phase. Assumes nothing.
+-- `acts::keep_swap` meets its contract: swaps, then phase. Assumes nothing.
 use borrow.Author.Needs.{needs}
 use mathlib.Core.Path.{refl}
-use Rattle.turns.proofs.keep_swap.Statement.{statement}
-use Rattle.turns.proofs.keep_swap.Tie as tie
+use Rattle.acts.proofs.keep_swap.Statement.{statement}
+use Rattle.acts.proofs.keep_swap.Tie as tie
 
 put-swaps-at-requires : tie.Need-put-swaps-at-requires
 put-swaps-at-requires c κs = search needs
