@@ -220,14 +220,3 @@ module _ {A : Type 0} (f : A → Bool) (d : A) where
 
   pub all-done : (l : List A) (i : ℕ) → every i (atIndex f l d) ≡ true → i ≤ length l → length l ≤ i → all f l ≡ true
   all-done l i e h k = all-every l ∙ every-done (atIndex f l d) (length l) i e h k
-
-  -- a search finds an element, or has passed all of them
-  pub any-found : (l : List A) (i : ℕ) → i < length l → f (getD l i d) ≡ true → any f l ≡ true
-  any-found l i b e = says-any f Holds (λ x. says-is (f x)) d l .test (record { at = i; low = b; holds = e })
-
-  pub any-none : (l : List A) → ((i : ℕ) → i < length l → f (getD l i d) ≡ false) → any f l ≡ false
-  any-none l h =
-      refute (any f l)
-      (λ e.
-      let k = says-any f Holds (λ x. says-is (f x)) d l .holds e in
-      clash (f (getD l (k .at) d)) (k .holds) (h (k .at) (k .low)))

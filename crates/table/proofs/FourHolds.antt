@@ -9,7 +9,7 @@ use Rattle.model.specs.declared.Row.{Row}
 use Rattle.model.specs.Rows.{freshRow, cleared, clearMarks}
 use Rattle.model.proofs.Choice.{by-test}
 use Rattle.model.specs.Choice.{All}
-use Rattle.model.proofs.Says.{all-get, at-all}
+use Rattle.model.proofs.Says.{all-get}
 use Rattle.table.specs.Words.{whole, rowIn, isRow, rowAt, listFrom, rowsOf}
 
 abbrev pub Four : Row → Type 0
@@ -21,9 +21,6 @@ pub record FourHolds (table : List Row) : Type 0 where
 -- the same as the model's `All`
 pub four-of-all : {table : List Row} → All Four table → FourHolds table
 four-of-all {table} h = record { four = λ i. all-get Four table i h refl }
-
-pub all-of-four : {table : List Row} → FourHolds table → All Four table
-all-of-four {table} h = at-all Four freshRow table (λ i b. h .four i)
 
 -- of the rows behind the first
 pub four-tail : {x : Row} {table : List Row} → FourHolds (x ∷ table) → FourHolds table

@@ -48,9 +48,6 @@ no-rows t n = rw (ne-eqb (length t) 96 n)
 pub row-read : (table : List Row) → FourHolds table → (i : ℕ) → i < length table → rowIn (tableWords table) (12 * i) ≡ getD table i freshRow
 row-read = read-row reads
 
-pub row-checked : (table : List Row) → FourHolds table → (i : ℕ) → i < length table → rowAt (tableWords table) i ≡ getD table i freshRow
-row-checked = read-row reads-checked
-
 pub rows-read : (table : List Row) → length table ≡ 8 → FourHolds table → rowsRead (tableWords table) ≡ table
 rows-read table e h = rw e at (read-rows reads table h)
 
@@ -69,10 +66,7 @@ module _ (table : List Row) (i : ℕ) where
   pub put-phase : (p : Phase) → putPhase (tableWords table) i p ≡ tableWords (set table i (withPhase (getD table i freshRow) p))
   put-phase p = change-row (puts-phase p) table i
 
-  pub put-swaps : (n : ℕ) → putSwaps (tableWords table) i n ≡ tableWords (set table i (withSwaps (getD table i freshRow) n))
-  put-swaps n = change-row (puts-swaps n) table i
-
-  -- GO stores both
+  -- GO stores swaps and phase
   pub put-swaps-phase : (n : ℕ) (p : Phase)
       → putPhase (putSwaps (tableWords table) i n) i p ≡ tableWords (set table i (withPhase (withSwaps (getD table i freshRow) n) p))
   put-swaps-phase n p = change-row (and-then (puts-swaps n) (puts-phase p)) table i
