@@ -54,10 +54,6 @@ module _ (s : State) (n : ℕ) (e : n ≡ refusalOf s) where
       rw (r, e)
       (refused-by-given (callRefusals s) (λ k. ran (Refused k) slots s) (oneByOne act s (stepsOf ws)) (rw e at h))
 
-pub run-wrong-sizes : (s : State) (ws slots : List ℕ) → runSizes ws slots ≡ false → runCall s ws slots ≡ ran (Refused 1) slots s
-unfolding runCall
-run-wrong-sizes s ws slots e = by-test (λ (r : Ran). r ≡ ran (Refused 1) slots s) (wrongSize s) (λ _. refl) (λ _. rw e)
-
 -- what a refused call leaves: n is 1 or 2
 refusal-small : (s : State) → refusalOf s ≤ 2
 unfolding refusalOf

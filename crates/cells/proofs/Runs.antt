@@ -10,7 +10,7 @@ use lib.Seq.{getD-set-same, getD-set-other, set-out}
 use Rattle.model.specs.Choice.{one}
 use Rattle.model.specs.Arena.{bit, used, putRun, IsMap}
 use Rattle.model.proofs.Choice.{order, same-or-not}
-use Rattle.model.proofs.CellMap.{set-map, run-map, used-run-in, used-run-other, map-ext}
+use Rattle.model.proofs.CellMap.{set-map, run-map, used-run, used-run-other, map-ext}
 use Rattle.cells.specs.Words.{lowMask, highMask, masked}
 use Rattle.cells.proofs.Masks.{low-in, low-out, high-in, high-out, low-fits, high-fits, masked-fits, masked-in, masked-out}
 
@@ -99,7 +99,7 @@ run-by-masks m c n to h k =
     (λ x hx. ⊎-elim (λ p. outside x hx (inl p)) (λ p. ⊎-elim (inside x hx p) (λ q. outside x hx (inr q)) (order x (c + n))) (order x c))
   where
     inside : (x : ℕ) → x < 1024 → c ≤ x → x < c + n → used (putRun m c n (one to)) x ≡ used (bothPut m c n to) x
-    inside x hx p q = used-run-in m c n (one to) x h (one-lt to) p q hx ∙ sym (both-in m c n x to h k hx p q)
+    inside x hx p q = used-run m c n (one to) x h (one-lt to) p q hx ∙ sym (both-in m c n x to h k hx p q)
 
     outside : (x : ℕ) → x < 1024 → (x < c) ⊎ (c + n ≤ x) → used (putRun m c n (one to)) x ≡ used (bothPut m c n to) x
     outside x hx o = used-run-other m c n (one to) x (one-lt to) o ∙ sym (both-out m c n x to h k hx o)

@@ -44,7 +44,8 @@ module _ (m : List ℕ) (c : ℕ) (which : Bool) (h : IsMap m) where
     where
       no-bit : 64 ≤ c % 64 + hop m c which → bit (sought (getD m (c / 64) 0) which) (c % 64 + hop m c which) ≡ 0
       no-bit q =
-          bit-high 64 (sought (getD m (c / 64) 0) which) (c % 64 + hop m c which) (sought-fits (getD m (c / 64) 0) which (h .words (c / 64))) q
+          bit-high 64 (sought (getD m (c / 64) 0) which) (c % 64 + hop m c which)
+          (sought-fits (getD m (c / 64) 0) which (h .words (c / 64))) q
 
   -- at a sought cell
   pub hop-hit : hop m c which < 64 → used m (c + hop m c which) ≡ one which
@@ -89,4 +90,4 @@ none-at-all m n c pos h below d r = ⊎-elim (λ p. below d p r) (λ (p : c ≤ 
 
 -- whatever is the lowest run is the model's
 pub lowest-only : (m : List ℕ) (n : ℕ) → 0 < n → {r : ℕ} → IsLowest m n r → r ≡ lowestRun m n
-lowest-only m n h p = lowest-unique m n h p (lowest-is-lowest m n h)
+lowest-only m n h p = lowest-unique m n p (lowest-is-lowest m n h)

@@ -14,7 +14,7 @@ use Rattle.model.specs.Arena.{cells, words, none, start, word, header, label, n
 use Rattle.model.specs.State.{Stage, idle, firstBarrier, copying, secondBarrier, thirdBarrier, stageOf, entry, State}
 use Rattle.model.specs.Rules as rules
 use Rattle.model.specs.Steps.{Step, ADMIT}
-use Rattle.model.proofs.ByKind.{real}
+use Rattle.model.proofs.ByKind.{by-kind}
 use Rattle.model.proofs.CellMap.{FreeRun, run-map, lowest-free}
 use Rattle.model.proofs.Records.{length-laid, laid-in, new-length, new-zero}
 use Rattle.demands.specs.Log.{Client, Account, update}
@@ -79,7 +79,7 @@ module _ {X : Type 0} {dir map : List ℕ} {v : Move} {arena : List ℕ} {val : 
 
   admitted : EntryOK X v arena′ val′ kind′ own′ a c
   admitted =
-      let z = real k hk in
+      let z = by-kind k hk in
       same-account {val = λ _ _. 0} {kind = λ _. k} (rw (eq-eqb a a refl)) (rw (eq-eqb a a refl)) (record {
         kinded = hk;
         range = run .within;
@@ -92,7 +92,7 @@ module _ {X : Type 0} {dir map : List ℕ} {v : Move} {arena : List ℕ} {val : 
   stood : (m : ℕ) → m ≢ a → entry dir m ≢ none → EntryOK X v arena′ val′ kind′ own′ m (entry dir m)
   stood m ne y =
       let E = C .entries m y in
-      let z = real (kind m) (E .kinded) in
+      let z = by-kind (kind m) (E .kinded) in
       let i : m ≢ none = λ e. omega (arith, meter-lt C m y) in
       let same : (j : ℕ) → j < 8 * cells (kind m) → word arena′ (entry dir m) j ≡ word arena (entry dir m) j =
       λ j b. old-word m (entry dir m) (cells (kind m)) j i (E .owns) b in
@@ -171,7 +171,7 @@ admit-inv {X} s g t I =
     let small = ltb-false 3 (t .b) (k .1 .0) in
     let hk : t .b < 4 = omega arith in
     let absent = eqb-true (entry (s .control .dir) (t .a)) none (not-false (eqb (entry (s .control .dir) (t .a)) none) (k .1 .1 .0)) in
-    let run = lowest-free (s .control .map) (cells (t .b)) (real (t .b) hk .some) (eqb-false c none (k .1 .1 .1 .0)) in
+    let run = lowest-free (s .control .map) (cells (t .b)) (by-kind (t .b) hk .some) (eqb-false c none (k .1 .1 .1 .0)) in
     record {
       own = repaint (I .own) c (cells (t .b)) (t .a);
       core = admitted-core (I .core) (t .a) (t .b) c ha hk absent run;

@@ -16,7 +16,7 @@ use Rattle.model.specs.State.{withMove, withBegun, rise, entry, State, state}
 use Rattle.model.specs.KeeperSteps.{taken, firstMove}
 use Rattle.model.specs.Rules.{isEarly}
 use Rattle.model.specs.Steps.{Step, BEGIN}
-use Rattle.model.proofs.ByKind.{real}
+use Rattle.model.proofs.ByKind.{by-kind}
 use Rattle.model.proofs.CellMap.{FreeRun, run-map, lowest-free}
 use Rattle.model.proofs.Counts.{rise-is}
 use Rattle.demands.specs.Log.{Client, Account}
@@ -134,7 +134,7 @@ module _ {X : Type 0} (s : State) (g : Account) (t : Step) (I : Inv X s g) where
       (here (entry-range (I .core) (t .a) present) refl) present in
       let d : ℕ = lowestRun (s .control .map) (cells (g .kind (t .a))) in
       let below : d < c = leb-false c d (rw same at (k .1 .1 .1 .0)) in
-      let z = real (g .kind (t .a)) (I .core .entries (t .a) present .kinded) in
+      let z = by-kind (g .kind (t .a)) (I .core .entries (t .a) present .kinded) in
       rw same (began d (idle-of (s .control .mv) (k .1 .0)) present
       (lowest-free (s .control .map) (cells (g .kind (t .a))) (z .some) (λ e. omega (arith, entry-range (I .core) (t .a) present)))
       (eqb-false (s .control .begun) 4294967295 (k .1 .1 .1 .1 .0))))

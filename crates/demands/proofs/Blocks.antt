@@ -10,7 +10,7 @@ use Rattle.model.specs.declared.Move.{Move}
 use Rattle.model.specs.Arena.{cells, words, none, header, plain, flagged, label, kindOf, IsMap}
 use Rattle.model.specs.State.{Stage, idle, firstBarrier, copying, secondBarrier, thirdBarrier, stageOf, noMove, entry}
 use Rattle.model.specs.Rules as rules
-use Rattle.model.proofs.ByKind.{Real, real}
+use Rattle.model.proofs.ByKind.{Real, by-kind}
 use Rattle.demands.proofs.Stages.{first, First, Early, not-both}
 use Rattle.demands.proofs.Lists.{getD-in}
 use Rattle.demands.proofs.Owners.{other, Mapped}
@@ -68,11 +68,11 @@ module _ {X : Type 0} {dir map : List ℕ} {v : Move} {arena : List ℕ} {val : 
   meter-lt m n = omega (arith, getD-in dir m none n, C .entries256)
 
   pub entry-range : (m : ℕ) → entry dir m ≢ none → entry dir m < 1024
-  entry-range m n = let E = C .entries m n in let z = real (kind m) (E .kinded) in omega (arith, E .range)
+  entry-range m n = let E = C .entries m n in let z = by-kind (kind m) (E .kinded) in omega (arith, E .range)
 
   -- the owner of an entry's first cell
   pub entry-own : (m : ℕ) → entry dir m ≢ none → own (entry dir m) ≡ m
-  entry-own m n = let E = C .entries m n in let z = real (kind m) (E .kinded) in E .owns (entry dir m) (omega arith) (omega arith)
+  entry-own m n = let E = C .entries m n in let z = by-kind (kind m) (E .kinded) in E .owns (entry dir m) (omega arith) (omega arith)
 
   -- the moved meter's record, at c, and the other block, at d
   module _ {c d : ℕ} (b : Sides v c d) where
@@ -86,7 +86,7 @@ module _ {X : Type 0} {dir map : List ℕ} {v : Move} {arena : List ℕ} {val : 
     home-entry = rw (C .sides b .home) at (C .entries (v .meter) home-in)
 
     pub home-real : Real (kind (v .meter))
-    home-real = real (kind (v .meter)) (home-entry .kinded)
+    home-real = by-kind (kind (v .meter)) (home-entry .kinded)
 
     pub side-lt : d < 1024
     side-lt = let z = home-real in omega (arith, C .sides b .range)

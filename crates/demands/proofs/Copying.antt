@@ -19,7 +19,7 @@ use Rattle.model.specs.KeeperSteps.{startCopying, replicaWord, copyWord}
 use Rattle.model.specs.Steps.{Step, ADVANCE}
 use Rattle.model.specs.Rules as rules
 use Rattle.model.proofs.Choice.{by-test, same-or-not}
-use Rattle.model.proofs.ByKind.{real}
+use Rattle.model.proofs.ByKind.{by-kind}
 use Rattle.model.proofs.Counts.{rise-is}
 use Rattle.demands.specs.Log.{Client, Account}
 use Rattle.demands.proofs.Stages.{never, First, Early, Late, at-stage, not-both}
@@ -68,7 +68,7 @@ module _ {X : Type 0} {dir map : List ℕ} {v : Move} {arena : List ℕ} {val : 
     is-map = C .is-map;
     entries = λ m y.
         let E = C .entries m y in
-        let z = real (kind m) (E .kinded) in
+        let z = by-kind (kind m) (E .kinded) in
         let o = meter-lt C m y in
         carry-entry E (E .owns) (rw (same m (entry dir m) (cells (kind m)) 0 o (E .owns) (omega arith)) (keep-head (E .head)))
         (λ j _ q. same m (entry dir m) (cells (kind m)) j o (E .owns) q);

@@ -30,7 +30,7 @@ use Rattle.model.specs.Refusals.{Refusal, refuse}
 use Rattle.model.specs.Steps.{Step, Name, ADMIT, RETIRE, BEGIN, ADVANCE, ATTACH, DETACH, OPEN, DROP, READ, WRITE, GO, REST, UNKNOWN, NOBODY}
 use Rattle.model.specs.Steps.{nameOf, ownRow, refusals, seated, effect, refused, act}
 use Rattle.model.proofs.Choice.{by-test, clash}
-use Rattle.model.proofs.ByKind.{real}
+use Rattle.model.proofs.ByKind.{by-kind}
 use Rattle.model.proofs.Parties.{ofKeeper, ofClient, keeper-who, client-who}
 use Rattle.model.proofs.CellMap.{lowest-free}
 use Rattle.model.proofs.Counts.{rise-is}
@@ -149,7 +149,7 @@ module _ {X : Type 0} (s : State) (g : Account) (t : Step) (I : Inv X s g) where
         let c : ℕ = lowestRun (s .control .map) (cells (t .b)) in
         let small = ltb-false 3 (t .b) (p .1 .0) in
         let hk : t .b < 4 = omega arith in
-        let run = lowest-free (s .control .map) (cells (t .b)) (real (t .b) hk .some) (eqb-false c none (p .1 .1 .1 .0)) in
+        let run = lowest-free (s .control .map) (cells (t .b)) (by-kind (t .b) hk .some) (eqb-false c none (p .1 .1 .1 .0)) in
         let absent = eqb-true (entry (s .control .dir) (t .a)) none (not-false (eqb (entry (s .control .dir) (t .a)) none) (p .1 .1 .0)) in
         keeps {x = Admitted c} k (omega arith) (omega arith) same (admits (t .a) (t .b) c
         (λ l. let z = home-real (I .core) (early l) in

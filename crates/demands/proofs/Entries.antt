@@ -10,7 +10,7 @@ use Rattle.model.specs.declared.Move.{Move}
 use Rattle.model.specs.Arena.{cells, none, place, word, header}
 use Rattle.model.specs.State.{entry}
 use Rattle.model.proofs.Choice.{same-or-not}
-use Rattle.model.proofs.ByKind.{Real, real}
+use Rattle.model.proofs.ByKind.{Real, by-kind}
 use Rattle.demands.proofs.Owners.{Owns}
 use Rattle.demands.proofs.Words.{put-at, put-else}
 use Rattle.demands.proofs.Inv.{HeadOK, EntryOK, Core}
@@ -21,7 +21,7 @@ pub carry-entry : {X : Type 0} {v v′ : Move} {arena arena′ : List ℕ} {val 
     → ((j : ℕ) → 0 < j → j < 8 * cells (kind m) → word arena′ c j ≡ word arena c j)
     → EntryOK X v′ arena′ val kind own′ m c
 carry-entry {kind = kind} {m = m} E o h same =
-    let z : Real (kind m) = real (kind m) (E .kinded) in
+    let z : Real (kind m) = by-kind (kind m) (E .kinded) in
     record {
       kinded = E .kinded;
       range = E .range;
@@ -52,7 +52,7 @@ module _ {X : Type 0} {dir map : List ℕ} {v : Move} {arena : List ℕ} {val : 
   old-entry = rw e at (C .entries a (λ z. omega arith))
 
   old-real : Real (kind a)
-  old-real = real (kind a) (old-entry .kinded)
+  old-real = by-kind (kind a) (old-entry .kinded)
 
   pub stored-head : header (set arena (place c 0) w) c ≡ w
   stored-head = let z = old-real in put-at arena c 0 w (cells (kind a)) (C .words8192) (old-entry .range) (omega arith)
@@ -81,5 +81,5 @@ module _ {X : Type 0} {dir map : List ℕ} {v : Move} {arena : List ℕ} {val : 
 
       other : m ≢ a → HeadOK v′ m (entry dir m) (header (set arena (place c 0) w) (entry dir m))
       other z =
-          let k = real (kind m) (E .kinded) in
+          let k = by-kind (kind m) (E .kinded) in
           rw (stored-else m (entry dir m) (cells (kind m)) 0 (E .owns) (omega arith) (λ y. absurd (z (sym y)))) (keep z (E .head))

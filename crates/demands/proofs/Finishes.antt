@@ -22,7 +22,7 @@ use Rattle.model.specs.State.{State, entry}
 use Rattle.model.specs.ClientSteps.{finish, go}
 use Rattle.model.specs.Steps.{Step, GO, ownRow, seated}
 use Rattle.model.proofs.Choice.{by-test, clash}
-use Rattle.model.proofs.ByKind.{real}
+use Rattle.model.proofs.ByKind.{by-kind}
 use Rattle.demands.specs.Log.{noAccess, Account, update, clientOf, withPending, told}
 use Rattle.demands.proofs.Stages.{Early, Late, not-both}
 use Rattle.demands.proofs.Lists.{set-both}
@@ -86,7 +86,7 @@ module _ {X : Type 0} {dir map : List ℕ} {v : Move} {arena : List ℕ} {val : 
   -- the words of other blocks, and the other words of this one
   else : (i′ d n j : ℕ) → Owns own i′ d n → j < 8 * n → (i ≡ i′ → (c ≡ d) × (j ≢ 2 + w)) → word arena′ d j ≡ word arena d j
   else i′ d n j o b f =
-      let z = real (kind m) (S .kinded) in
+      let z = by-kind (kind m) (S .kinded) in
       put-else own arena i c (cells (kind m)) (2 + w) u i′ d n j (S .owns) o (omega arith) b f
 
   pub home-head : Early v → header arena′ (v .from) ≡ header arena (v .from)
@@ -107,7 +107,7 @@ module _ {X : Type 0} {dir map : List ℕ} {v : Move} {arena : List ℕ} {val : 
   written-entry : (n : ℕ) → entry dir n ≢ none → EntryOK X v arena′ (update val m (update (val m) w u)) kind own n (entry dir n)
   written-entry n y =
       let E = C .entries n y in
-      let z = real (kind n) (E .kinded) in
+      let z = by-kind (kind n) (E .kinded) in
       let same : (j : ℕ) → j < 8 * cells (kind n) → (i ≡ n → j ≢ 2 + w) → word arena′ (entry dir n) j ≡ word arena (entry dir n) j =
       λ j b f. else n (entry dir n) (cells (kind n)) j (E .owns) b (λ e. (S .entry n y e, f e)) in
       record {
@@ -120,7 +120,7 @@ module _ {X : Type 0} {dir map : List ℕ} {v : Move} {arena : List ℕ} {val : 
             by-test (λ (f : ℕ → ℕ). word arena′ (entry dir n) (2 + j) ≡ f j) (eqb n m)
             (λ p. let nm = eqb-true n m p in
             by-test (λ (b : ℕ). word arena′ (entry dir n) (2 + j) ≡ b) (eqb j w)
-            (λ q. let sz = real (kind m) (S .kinded) in
+            (λ q. let sz = by-kind (kind m) (S .kinded) in
             ap (λ (k : ℕ). word arena′ (entry dir n) (2 + k)) (eqb-true j w q)
             ∙ ap (λ (k : ℕ). word arena′ k (2 + w)) (sym (S .entry n y (S .mine x ∙ sym nm)))
             ∙ put-at arena c (2 + w) u (cells (kind m)) (C .words8192) (S .room) (omega arith))

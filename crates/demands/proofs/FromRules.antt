@@ -19,7 +19,7 @@ use Rattle.model.specs.State.{Stage, idle, firstBarrier, copying, secondBarrier
 use Rattle.model.specs.Choice.{every}
 use Rattle.model.specs.Rules.{isEarly, early as early-stage, late as late-stage, covers, flagUp}
 use Rattle.model.proofs.Choice.{same-or-not}
-use Rattle.model.proofs.ByKind.{real}
+use Rattle.model.proofs.ByKind.{by-kind}
 use Rattle.model.proofs.Says.{says-eq, says-holds, says-not, says-when, says-every, all-get, one-yes}
 use Rattle.model.proofs.Readings.{Sound, NumbersAt, HeaderRight, own-header, flag-header, HoldRight, hold-empty, hold-present, hold-old}
 use Rattle.model.proofs.Readings.{AccessRight, PhaseRight, RowRight, SwapsAt, Owing, owed-words, waiting-owes, says-flag}
@@ -104,7 +104,7 @@ module _ (s : State) (Z : Sizes s) (S : Sound s) where
   label-is m n = omega (arith, S .r1 m (meter-lt m n) n .meter)
 
   entry-lt : (m : ℕ) → entry dir m ≢ none → entry dir m < 1024
-  entry-lt m n = omega (arith, S .r1 m (meter-lt m n) n .within, real (kindIn s m) (kind-lt m) .some)
+  entry-lt m n = omega (arith, S .r1 m (meter-lt m n) n .within, by-kind (kindIn s m) (kind-lt m) .some)
 
   -- the old block's label is the moved record's
   from-label : {c d : ℕ} → Sides v c d → label arena (v .from) ≡ label arena (entry dir (v .meter))

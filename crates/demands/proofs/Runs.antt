@@ -2,16 +2,15 @@
 -- Assumes nothing.
 use mathlib.Core.Path.{_≡_, refl, sym, ap, _∙_}
 use mathlib.Core.Logic.{_≢_}
-use mathlib.Core.Bool.{true, false}
+use mathlib.Core.Bool.{true}
 use mathlib.Core.List.{List, [], _∷_}
 use Prim.Native.Nat.{ℕ}
 use Rattle.model.specs.declared.Answer.the-variants.{Refused, Done}
 use Rattle.model.specs.State.{State, Outcome, Sizes}
-use Rattle.model.specs.Steps.{Step, act, wrongSize, stepCall, Ran, ran, then, oneByOne, stepsFrom, stepsOf, runSizes, runCall}
+use Rattle.model.specs.Steps.{Step, act, stepCall, ran, then, oneByOne, stepsFrom, stepsOf, runSizes, runCall}
 use Rattle.model.specs.Rules.{firstBroken}
-use Rattle.model.proofs.Choice.{by-test}
 use Rattle.model.proofs.Sizes.{right-size}
-use Rattle.model.proofs.Calls.{sound-passes, unsound-fails, step-sound}
+use Rattle.model.proofs.Calls.{step-sound, run-sound, run-unsound}
 use Rattle.demands.specs.Log.{after}
 use Rattle.demands.proofs.Kept.{sound-kept, sizes-kept, after-sound, after-sizes}
 
@@ -19,25 +18,10 @@ use Rattle.demands.proofs.Kept.{sound-kept, sizes-kept, after-sound, af
 pub step-is-act : (s : State) (t : Step) → Sizes s → firstBroken s ≡ 0 → stepCall s t ≡ act s t
 step-is-act s t Z e = step-sound s (right-size s Z) t e
 
--- 1 and 2 refuse the whole run: the answer slots and the state stay as they are
-pub run-wrong-size : (s : State) (ws slots : List ℕ) → wrongSize s ≡ true → runCall s ws slots ≡ ran (Refused 1) slots s
-unfolding runCall
-run-wrong-size s ws slots e = rw e refl
-
-pub run-wrong-steps : (s : State) (ws slots : List ℕ) → runSizes ws slots ≡ false → runCall s ws slots ≡ ran (Refused 1) slots s
-unfolding runCall
-run-wrong-steps s ws slots e = by-test (λ (r : Ran). r ≡ ran (Refused 1) slots s) (wrongSize s) (λ _. refl) (λ _. rw e refl)
-
-pub run-unsound : (s : State) (ws slots : List ℕ) → wrongSize s ≡ false → runSizes ws slots ≡ true → firstBroken s ≢ 0
-    → runCall s ws slots ≡ ran (Refused 2) slots s
-unfolding runCall
-run-unsound s ws slots p q n = rw (p, q, unsound-fails s n) refl
-
--- otherwise its steps are done
+-- and a run is its steps, each as `act` does it
 pub run-acts : (s : State) (ws slots : List ℕ) → Sizes s → runSizes ws slots ≡ true → firstBroken s ≡ 0
     → runCall s ws slots ≡ oneByOne act s (stepsOf ws)
-unfolding runCall
-run-acts s ws slots Z q e = rw (right-size s Z, q, sound-passes s e) refl
+run-acts s ws slots Z q e = run-sound s (right-size s Z) ws slots q e
 
 -- a run of no steps answers 30 with 0; "A run of no steps still gives 2 on an unsound state."
 none-fit : runSizes [] [] ≡ true
@@ -49,7 +33,7 @@ unfolding stepsFrom
 no-steps s Z e = run-acts s [] [] Z none-fit e
 
 pub no-steps-unsound : (s : State) → Sizes s → firstBroken s ≢ 0 → runCall s [] [] ≡ ran (Refused 2) [] s
-no-steps-unsound s Z n = run-unsound s [] [] (right-size s Z) none-fit n
+no-steps-unsound s Z n = run-unsound s (right-size s Z) [] [] none-fit n
 
 steps-are-acts : (l : List Step) (s : State) → Sizes s → firstBroken s ≡ 0 → oneByOne stepCall s l ≡ oneByOne act s l
 steps-are-acts [] s Z e = refl

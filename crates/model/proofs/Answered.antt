@@ -1,9 +1,9 @@
--- What every step has in common: its answer is one of 01's numbers, and a refused step changes nothing.
+-- What every call has in common: its answer is one of 01's numbers, and a refused one changes nothing.
 -- Assumes nothing.
-use mathlib.Core.Path.{_≡_, refl, sym, ap, subst}
-use mathlib.Core.Bool.{Bool}
+use mathlib.Core.Path.{_≡_, refl, ap}
+use mathlib.Core.Bool.{true}
 use mathlib.Core.List.{List, [], _∷_}
-use Prim.Native.Nat.{ℕ, pred, _<_}
+use Prim.Native.Nat.{ℕ, pred}
 use native.Mathlib.Omega.{arith}
 use lib.Dec.{T, eqb, leb, leb→le}
 use lib.Seq.{set-getD}
@@ -12,39 +12,41 @@ use Rattle.model.specs.declared.Phase.the-variants.{Resting, Ready, Wait
 use Rattle.model.specs.declared.Access.{Access}
 use Rattle.model.specs.declared.Access.the-variants.{Read, Write}
 use Rattle.model.specs.declared.Stepped.{Stepped}
-use Rattle.model.specs.Choice.{_and_, _or_}
-use Rattle.model.specs.Arena.{header, flagged, flagOf, wordsAt}
+use Rattle.model.specs.declared.Answer.the-variants.{Done}
+use Rattle.model.specs.Arena.{header, flagged, flagOf, wordsAt, fill}
 use Rattle.model.specs.Rows.{hold, freshRow, allPassed}
 use Rattle.model.specs.State.{Stage, idle, firstBarrier, copying, secondBarrier, thirdBarrier, stageOf, rise, State, withTable}
-use Rattle.model.specs.State.{Outcome, number, value}
+use Rattle.model.specs.State.{Outcome, outcome, number, numberOf01, Answered, fresh}
 use Rattle.model.specs.ClientSteps.{atHeader, swap, go}
 use Rattle.model.specs.KeeperSteps.{moveOf, barrier, copyWord, settle, advance}
-use Rattle.model.specs.Refusals.{Refusal, _if_}
+use Rattle.model.specs.Refusals.{Refusal, _if_, refuse}
 use Rattle.model.specs.Steps.{Step, Name, ADMIT, RETIRE, BEGIN, ADVANCE, ATTACH, DETACH, OPEN, DROP, READ, WRITE, GO, REST, UNKNOWN}
-use Rattle.model.specs.Steps.{NOBODY, nameOf, ownRow, seated, effect, refused, act, wrongSize, unsound, stepCall}
+use Rattle.model.specs.Steps.{NOBODY, nameOf, ownRow, seated, effect, refused, act, wrongSize, callRefusals, freshCall, auditCall}
+use Rattle.model.specs.Steps.{fillCall, stepCall}
+use Rattle.model.specs.Rules.{firstBroken}
 use Rattle.model.proofs.Choice.{by-test}
+use Rattle.model.proofs.Says.{says-holds}
 use Rattle.model.proofs.Refusals.{Each, numbers, each, by-refusals}
 use Rattle.model.proofs.Tabled.{table, act-tabled}
 
--- 01's answer numbers: refusals 1 to 15, 20 to 27 and 30 to 35
-abbrev pub numberOf01 : ℕ → Bool
-numberOf01 n = (leb 1 n and leb n 15) or (leb 20 n and leb n 27) or (leb 30 n and leb n 35)
-
--- the answer is one of these, and below 20 "All memory and the control record are then as before, and the value is 0"
-pub record Answered (s : State) (o : Outcome) : Type 0 where
-  pub tabled : T (numberOf01 (number (o .answer)))
-  pub unchanged : number (o .answer) < 20 → (value (o .answer) ≡ 0) × (o .next ≡ s)
-
+-- what `tt` shows of an accepted outcome where its number computes
 accepted : (s : State) (o : Outcome) → T (numberOf01 (number (o .answer))) → T (leb 20 (number (o .answer))) → Answered s o
-accepted s o t u = record { tabled = t; unchanged = λ h. absurd (omega (arith, leb→le 20 (number (o .answer)) u)) }
+accepted s o t u =
+    record {
+      tabled = says-holds (numberOf01 (number (o .answer))) .test t;
+      unchanged = λ h. absurd (omega (arith, leb→le 20 (number (o .answer)) u));
+    }
 
-turned-down : (s : State) (n : ℕ) → T (numberOf01 n) → Answered s (refused s n)
+turned-down : (s : State) (n : ℕ) → numberOf01 n ≡ true → Answered s (refused s n)
 turned-down s n t = record { tabled = t; unchanged = λ _. (refl, refl) }
+
+refusals-answered : (s : State) (l : List Refusal) → T (numbers numberOf01 l) → Each (λ n. Answered s (refused s n)) l
+refusals-answered s l u = each (λ n. Answered s (refused s n)) numberOf01 l (turned-down s) u
 
 module _ (s : State) (t : Step) where
   by-stage : (g : Stage) → Answered s (advance s g)
   unfolding barrier copyWord settle
-  by-stage idle = turned-down s 9 tt
+  by-stage idle = turned-down s 9 refl
   by-stage firstBarrier = by-test (Answered s) (allPassed (s .table)) (λ _. accepted s _ tt tt) (λ _. accepted s _ tt tt)
   by-stage copying =
       by-test (Answered s) (eqb (rise (moveOf s .copied)) (wordsAt (s .arena) (moveOf s .from))) (λ _. accepted s _ tt tt)
@@ -66,7 +68,7 @@ module _ (s : State) (t : Step) where
 
   by-phase : (p : Phase) → Seated (go (s .arena) (ownRow s t) p)
   unfolding Seated swap
-  by-phase Resting = record { tabled = tt; unchanged = λ _. (refl, ap (withTable s) (set-getD (s .table) (pred (t .who)) freshRow)) }
+  by-phase Resting = record { tabled = refl; unchanged = λ _. (refl, ap (withTable s) (set-getD (s .table) (pred (t .who)) freshRow)) }
   by-phase (Ready c (Read h w)) = accepted s _ tt tt
   by-phase (Ready c (Write h w v)) = accepted s _ tt tt
   by-phase (Waiting c x) =
@@ -87,21 +89,33 @@ module _ (s : State) (t : Step) where
   by-name WRITE = by-access (Write (t .a) (t .b) (t .v)) (hold (ownRow s t) (t .a)) (header (s .arena) (hold (ownRow s t) (t .a)))
   by-name GO = by-phase (ownRow s t .phase)
   by-name REST = accepted s _ tt tt
-  by-name UNKNOWN = turned-down s 4 tt
-  by-name NOBODY = turned-down s 3 tt
-
-  refusals-answered : (l : List Refusal) → T (numbers numberOf01 l) → Each (λ n. Answered s (refused s n)) l
-  refusals-answered l u = each (λ n. Answered s (refused s n)) numberOf01 l (λ n e. turned-down s n (subst T (sym e) tt)) u
+  by-name UNKNOWN = turned-down s 4 refl
+  by-name NOBODY = turned-down s 3 refl
 
   act-answered : Answered s (act s t)
   act-answered =
       rw (act-tabled s t)
-      (by-refusals (Answered s) (table s t (nameOf t)) (refused s) (effect (nameOf t) s t) (refusals-answered (table s t (nameOf t)) tt)
+      (by-refusals (Answered s) (table s t (nameOf t)) (refused s) (effect (nameOf t) s t) (refusals-answered s (table s t (nameOf t)) tt)
       (λ _. by-name (nameOf t)))
 
   -- every step, on memory of any contents
   pub answered : Answered s (stepCall s t)
   unfolding stepCall
-  answered =
-      by-refusals (Answered s) (1 if wrongSize s ∷ 2 if unsound s ∷ []) (refused s) (act s t)
-      (refusals-answered (1 if wrongSize s ∷ 2 if unsound s ∷ []) tt) (λ _. act-answered)
+  answered = by-refusals (Answered s) (callRefusals s) (refused s) (act s t) (refusals-answered s (callRefusals s) tt) (λ _. act-answered)
+
+-- and every other call
+module _ (s : State) where
+  unless : (l : List Refusal) (o : Outcome) → T (numbers numberOf01 l) → Answered s o → Answered s (refuse l (refused s) o)
+  unless l o u h = by-refusals (Answered s) l (refused s) o (refusals-answered s l u) (λ _. h)
+
+  pub fresh-answered : Answered s (freshCall s)
+  unfolding freshCall
+  fresh-answered = unless (1 if wrongSize s ∷ []) (outcome (Done 0) fresh) tt (accepted s _ tt tt)
+
+  pub fill-answered : Answered s (fillCall s)
+  unfolding fillCall
+  fill-answered = unless (callRefusals s) (outcome (Done (fill (s .control .map))) s) tt (accepted s _ tt tt)
+
+  pub audit-answered : Answered s (auditCall s)
+  unfolding auditCall
+  audit-answered = unless (1 if wrongSize s ∷ []) (outcome (Done (firstBroken s)) s) tt (accepted s _ tt tt)

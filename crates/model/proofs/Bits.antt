@@ -2,7 +2,7 @@
 use mathlib.Core.Path.{_≡_, refl, sym, ap, ap₂, _∙_, subst}
 use mathlib.Core.Logic.{⊎-elim}
 use Prim.Native.Nat.{ℕ, zero, suc, _+_, _-_, _*_, _/_, _%_, _^_, _≤_, _<_, min, max}
-use native.Mathlib.Nat.{mod-lt, add-mul, add-comm, pow-suc, mul-comm, mul-assoc, div-one, not-suc-le-zero, div-eq-of-lt, lt-of-lt-of-le}
+use native.Mathlib.Nat.{mod-lt, add-mul, add-comm, pow-suc, mul-comm, mul-assoc, div-one, not-suc-le-zero, div-eq-of-lt, lt-of-lt-of-le, zero-div}
 use native.Mathlib.Numerals.{add-one}
 use native.Mathlib.Omega.{arith}
 use lib.Arith.{digits-lt}
@@ -15,6 +15,10 @@ use Rattle.model.specs.Arena.{bit, withBit}
 pub bit-lt : (w k : ℕ) → bit w k < 2
 unfolding bit
 bit-lt w k = omega arith
+
+pub no-bit : (k : ℕ) → bit 0 k ≡ 0
+unfolding bit
+no-bit k = ap (λ (n : ℕ). n % 2) (zero-div (2 ^ k))
 
 pub bit-zero : (w : ℕ) → bit w 0 ≡ w % 2
 unfolding bit

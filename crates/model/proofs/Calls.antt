@@ -1,18 +1,19 @@
 -- What the calls give, in 01's words: 1 and 2 refuse, "30 with 0, or for fill with the figure, when they succeed", and the sizes and words
 -- of a run. Assumes nothing.
-use mathlib.Core.Path.{_≡_, refl}
+use mathlib.Core.Path.{_≡_, refl, ap}
 use mathlib.Core.Logic.{_≢_}
 use mathlib.Core.Bool.{true, false}
 use mathlib.Core.List.{List, [], _∷_}
-use Prim.Native.Nat.{ℕ, _*_, _/_, _%_, _≤_}
+use Prim.Native.Nat.{ℕ, zero, suc, _*_, _/_, _%_, _≤_}
 use native.Mathlib.Omega.{arith}
 use lib.ListN.{length}
-use Rattle.model.specs.declared.Answer.the-variants.{Done}
+use Rattle.model.specs.declared.Answer.the-variants.{Refused, Done}
 use Rattle.model.specs.Arena.{fill}
-use Rattle.model.specs.State.{State, outcome, number, value, fresh}
-use Rattle.model.specs.Steps.{Step, step, refused, act, wrongSize, unsound, freshCall, auditCall, fillCall, stepCall, ran, oneByOne}
-use Rattle.model.specs.Steps.{stepsFrom, stepsOf, runSizes}
+use Rattle.model.specs.State.{State, Outcome, outcome, number, value, fresh}
+use Rattle.model.specs.Steps.{Step, step, refused, act, wrongSize, unsound, freshCall, auditCall, fillCall, stepCall, Ran, ran}
+use Rattle.model.specs.Steps.{oneByOne, stepsFrom, stepsOf, runSizes, runCall}
 use Rattle.model.specs.Rules.{firstBroken}
+use Rattle.model.proofs.Choice.{by-test}
 use Rattle.model.proofs.Says.{Says, says-as, says-eq, says-le, says-not, says-and}
 
 -- a state that breaks no rule is not refused by 2
@@ -66,6 +67,26 @@ module _ (s : State) where
     unfolding auditCall
     audit-succeeds = rw right refl
 
+    -- the steps of a run are done
+    pub run-sound : (ws slots : List ℕ) → runSizes ws slots ≡ true → firstBroken s ≡ 0
+        → runCall s ws slots ≡ oneByOne act s (stepsOf ws)
+    unfolding runCall
+    run-sound ws slots q e = rw (right, q, sound-passes s e) refl
+
+    -- 2 refuses the whole run: the answer slots and the state stay as they are
+    pub run-unsound : (ws slots : List ℕ) → runSizes ws slots ≡ true → firstBroken s ≢ 0 → runCall s ws slots ≡ ran (Refused 2) slots s
+    unfolding runCall
+    run-unsound ws slots q n = rw (right, q, unsound-fails s n) refl
+
+  -- and so does 1, for the sizes of arena and table or for those of steps and slots
+  pub run-wrong-size : (ws slots : List ℕ) → wrongSize s ≡ true → runCall s ws slots ≡ ran (Refused 1) slots s
+  unfolding runCall
+  run-wrong-size ws slots e = rw e refl
+
+  pub run-wrong-steps : (ws slots : List ℕ) → runSizes ws slots ≡ false → runCall s ws slots ≡ ran (Refused 1) slots s
+  unfolding runCall
+  run-wrong-steps ws slots e = by-test (λ (r : Ran). r ≡ ran (Refused 1) slots s) (wrongSize s) (λ _. refl) (λ _. rw e refl)
+
 -- "A run of up to 4,096 steps (five words each, with a two-word answer slot for each": its numbers of words
 pub record RunSizes (ws slots : List ℕ) : Type 0 where
   pub steps : ℕ
@@ -82,6 +103,21 @@ says-run-sizes ws slots = says-as to from (says-and (says-le _ _) (says-and (say
 
     from : RunSizes ws slots → (length ws ≤ 20480) × ((length ws % 5 ≡ 0) × (length slots ≡ 2 * (length ws / 5)))
     from r = (omega (arith, r .most, r .words), (omega (arith, r .words), omega (arith, r .words, r .answers)))
+
+-- a run has as many steps as its words say, a slot of two words for each, and answers 30 with 0
+pub steps-length : (ws : List ℕ) (i n : ℕ) → length (stepsFrom ws i n) ≡ n
+unfolding stepsFrom
+steps-length ws i zero = refl
+steps-length ws i (suc n) = ap suc (steps-length ws (suc i) n)
+
+module _ (f : State → Step → Outcome) where
+  pub slots-length : (s : State) (l : List Step) → length (oneByOne f s l .slots) ≡ 2 * length l
+  slots-length s [] = refl
+  slots-length s (t ∷ l) = omega (arith, slots-length (f s t .next) l)
+
+  pub ran-done : (s : State) (l : List Step) → oneByOne f s l .answer ≡ Done 0
+  ran-done s [] = refl
+  ran-done s (t ∷ l) = ran-done (f s t .next) l
 
 -- the five words of a step are its numbers, and the two of its slot the answer's number and value
 pub one-step : (s : State) (who code a b v : ℕ)

@@ -5,7 +5,6 @@ use mathlib.Core.Bool.{Bool, true, false}
 use mathlib.Core.List.{List}
 use mathlib.Core.Logic.{_⊎_, inl, inr, ⊎-elim}
 use Prim.Native.Nat.{ℕ, zero, suc, _+_, _*_, _/_, _%_, _^_, _≤_, _<_}
-use native.Mathlib.Nat.{zero-div}
 use native.Mathlib.Omega.{arith}
 use lib.Dec.{lit<, eqb, leb}
 use borrow.Author.Tests.{eq-eqb, eqb-true, le-leb, leb-true}
@@ -15,7 +14,7 @@ use Rattle.model.specs.Choice.{pick, _and_}
 use Rattle.model.proofs.Choice.{order, same-or-not, clash, by-test, and-parts, and-true}
 use Rattle.model.specs.Arena.{none, IsMap, bit, withBit, used, put, putRun, freeCells, runAt, lowestFrom, lowestRun}
 use Rattle.model.proofs.Says.{getD-fresh}
-use Rattle.model.proofs.Bits.{bit-lt, with-same, with-other, with-lt, bits-ext}
+use Rattle.model.proofs.Bits.{bit-lt, no-bit, with-same, with-other, with-lt, bits-ext}
 
 pub used-lt : (m : List ℕ) (c : ℕ) → used m c < 2
 unfolding used
@@ -79,19 +78,16 @@ unfolding putRun
 run-map m c zero b h hb = h
 run-map m c (suc n) b h hb = put-map (putRun m c n b) (c + n) b (run-map m c n b h hb) hb
 
-pub used-run-in : (m : List ℕ) (c n b x : ℕ) → IsMap m → b < 2 → c ≤ x → x < c + n → x < 1024 → used (putRun m c n b) x ≡ b
+pub used-run : (m : List ℕ) (c n b x : ℕ) → IsMap m → b < 2 → c ≤ x → x < c + n → x < 1024 → used (putRun m c n b) x ≡ b
 unfolding putRun
-used-run-in m c zero b x h hb p q r = absurd (omega arith)
-used-run-in m c (suc n) b x h hb p q r = ⊎-elim last (before (λ u. used-run-in m c n b x h hb p u r)) (same-or-not x (c + n))
+used-run m c zero b x h hb p q r = absurd (omega arith)
+used-run m c (suc n) b x h hb p q r = ⊎-elim last (before (λ u. used-run m c n b x h hb p u r)) (same-or-not x (c + n))
   where
     last : x ≡ c + n → used (put (putRun m c n b) (c + n) b) x ≡ b
     last e = ap (used (put (putRun m c n b) (c + n) b)) e ∙ used-put (putRun m c n b) (c + n) b (run-map m c n b h hb) (omega arith) hb
 
     before : (x < c + n → used (putRun m c n b) x ≡ b) → (x ≡ c + n → ⊥) → used (put (putRun m c n b) (c + n) b) x ≡ b
     before ih ne = used-put-other (putRun m c n b) (c + n) b x hb ne ∙ ih (omega arith)
-
-pub used-run : (m : List ℕ) (c n b i : ℕ) → IsMap m → c + n ≤ 1024 → b < 2 → i < n → used (putRun m c n b) (c + i) ≡ b
-used-run m c n b i h hc hb hi = used-run-in m c n b (c + i) h hb (omega arith) (omega arith) (omega arith)
 
 pub used-run-other : (m : List ℕ) (c n b j : ℕ) → b < 2 → (j < c) ⊎ (c + n ≤ j) → used (putRun m c n b) j ≡ used m j
 unfolding putRun
@@ -112,8 +108,8 @@ pub fresh-map : IsMap (replicate 16 0)
 fresh-map = record { sixteen = refl; words = λ i. subst⁻¹ (λ (x : ℕ). x < 2 ^ 64) (getD-fresh 16 i 0) (lit< tt) }
 
 pub fresh-free : (c : ℕ) → used (replicate 16 0) c ≡ 0
-unfolding used bit
-fresh-free c = ap (λ (w : ℕ). w / 2 ^ (c % 64) % 2) (getD-fresh 16 (c / 64) 0) ∙ ap (λ (w : ℕ). w % 2) (zero-div (2 ^ (c % 64)))
+unfolding used
+fresh-free c = ap (λ (w : ℕ). bit w (c % 64)) (getD-fresh 16 (c / 64) 0) ∙ no-bit (c % 64)
 
 -- a run of n free cells at c: the cells lie in the map and are free
 pub record FreeRun (m : List ℕ) (n c : ℕ) : Type 0 where
@@ -199,11 +195,11 @@ lowest-is-lowest m n h = by (lowest-from m n 0 1024)
     by (first-at run p q f) = found run (λ d u. f d (omega arith) u)
 
 -- and nothing else is: what a search in code has to show
-pub lowest-unique : (m : List ℕ) (n : ℕ) → 0 < n → {r q : ℕ} → IsLowest m n r → IsLowest m n q → r ≡ q
-lowest-unique m n h (nowhere f) (nowhere g) = refl
-lowest-unique m n h (nowhere f) (found run g) = absurd (f _ run)
-lowest-unique m n h (found run f) (nowhere g) = absurd (g _ run)
-lowest-unique m n h {r} {q} (found run f) (found run′ g) =
+pub lowest-unique : (m : List ℕ) (n : ℕ) {r q : ℕ} → IsLowest m n r → IsLowest m n q → r ≡ q
+lowest-unique m n (nowhere f) (nowhere g) = refl
+lowest-unique m n (nowhere f) (found run g) = absurd (f _ run)
+lowest-unique m n (found run f) (nowhere g) = absurd (g _ run)
+lowest-unique m n {r} {q} (found run f) (found run′ g) =
     ⊎-elim (λ (p : r < q). absurd (g r p run))
     (λ (p : q ≤ r). ⊎-elim (λ (l : q < r). absurd (f q l run′)) (λ (l : r ≤ q). omega arith) (order q r)) (order r q)
 
@@ -215,13 +211,6 @@ lowest-free m n h ne = by (lowest-is-lowest m n h) ne
     by (nowhere f) ne = absurd (ne refl)
     by (found run f) ne = run
 
-pub lowest-range : (m : List ℕ) (n : ℕ) → 0 < n → lowestRun m n ≤ none
-lowest-range m n h = by (lowest-is-lowest m n h)
-  where
-    by : {r : ℕ} → IsLowest m n r → r ≤ none
-    by (nowhere f) = omega arith
-    by (found run f) = omega (arith, run .within)
-
 -- a run of no cells starts at cell 0
 pub lowest-of-none : (m : List ℕ) → lowestRun m 0 ≡ 0
 unfolding lowestRun lowestFrom runAt freeCells
@@ -230,4 +219,8 @@ lowest-of-none m = refl
 -- what is found is a cell or 65535, in sixteen bits
 pub lowest-fits : (m : List ℕ) (n : ℕ) → lowestRun m n ≤ none
 lowest-fits m zero = omega (arith, lowest-of-none m)
-lowest-fits m (suc n) = lowest-range m (suc n) (omega arith)
+lowest-fits m (suc n) = by (lowest-is-lowest m (suc n) (omega arith))
+  where
+    by : {r : ℕ} → IsLowest m (suc n) r → r ≤ none
+    by (nowhere f) = omega arith
+    by (found run f) = omega (arith, run .within)

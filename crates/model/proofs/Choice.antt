@@ -6,7 +6,7 @@ use Prim.Native.Nat.{ℕ, zero, suc, _≤_, _<_, zero-le, suc-le-suc}
 use native.Mathlib.Nat.{eq-or-lt-of-le}
 use native.Mathlib.Omega.{arith}
 use borrow.Author.Tests.{not-true, not-false}
-use Rattle.model.specs.Choice.{pick, _and_, every}
+use Rattle.model.specs.Choice.{pick, _and_}
 
 -- a test does not come out both ways
 pub clash : {A : Type 0} (b : Bool) → b ≡ true → b ≡ false → A
@@ -36,6 +36,10 @@ pub and-yes : (p : Bool) → (p and true) ≡ p
 and-yes true = refl
 and-yes false = refl
 
+pub and-no : (p : Bool) → (p and false) ≡ false
+and-no true = refl
+and-no false = refl
+
 -- a call's answer r for the test p, asked by `if !r`
 pub said-yes : {p r : Bool} → r ≡ p → not r ≡ false → p ≡ true
 said-yes {p} {r} e n = sym e ∙ not-false r n
@@ -56,9 +60,3 @@ sides j k ne = ⊎-elim inl (λ q. ⊎-elim (λ e. absurd (ne (sym e))) inr (eq-
 pub same-or-not : (j k : ℕ) → (j ≡ k) ⊎ (j ≡ k → ⊥)
 same-or-not j k =
     ⊎-elim (λ p. inr (λ e. omega arith)) (λ q. ⊎-elim (λ e. inl (sym e)) (λ p. inr (λ e. omega arith)) (eq-or-lt-of-le q)) (order j k)
-
--- what holds of each number below n is found true by `every`
-pub every-true : (n : ℕ) (f : ℕ → Bool) → ((x : ℕ) → x < n → f x ≡ true) → every n f ≡ true
-unfolding every
-every-true zero f h = refl
-every-true (suc n) f h = rw (h n (omega arith)) (every-true n f (λ x p. h x (omega arith)))

@@ -1,14 +1,15 @@
 -- Laws of words laid over the arena: a store before or after them is one word more; what stands at each place; a new record's words.
 -- Assumes nothing.
-use mathlib.Core.Path.{_≡_, refl, ap, _∙_}
+use mathlib.Core.Path.{_≡_, refl, sym, ap, _∙_}
 use mathlib.Core.List.{List, [], _∷_, _++_}
 use Prim.Native.Nat.{ℕ, zero, suc, _+_, _*_, _≤_, _<_}
-use native.Mathlib.Nat.{zero-add, suc-add}
+use native.Mathlib.Nat.{zero-add, suc-add, add-suc}
+use native.Mathlib.Numerals.{add-one}
 use native.Mathlib.Omega.{arith}
 use lib.ListN.{length, getD, set, replicate, length-replicate, replicate-append-replicate}
 use Rattle.model.specs.Arena.{cells, payload, newRecord, laid}
 use Rattle.model.proofs.Says.{getD-fresh}
-use Rattle.model.proofs.ByKind.{Real, real}
+use Rattle.model.proofs.ByKind.{Real, by-kind}
 
 -- no word laid
 pub laid-none : (a : List ℕ) (i : ℕ) → laid a i [] ≡ a
@@ -31,6 +32,27 @@ laid-last [] i ws w = refl
 laid-last (x ∷ a) zero [] w = ap (λ (l : List ℕ). w ∷ l) (laid-none a zero)
 laid-last (x ∷ a) zero (y ∷ ws) w = rw zero-add (ap (λ (l : List ℕ). y ∷ l) (rw zero-add at (laid-last a zero ws w)))
 laid-last (x ∷ a) (suc i) ws w = rw suc-add (ap (λ (l : List ℕ). x ∷ l) (laid-last a i ws w))
+
+-- laid behind one another they are laid together
+pub laid-append : (a : List ℕ) (i : ℕ) (xs ys : List ℕ) → laid (laid a i xs) (i + length xs) ys ≡ laid a i (xs ++ ys)
+unfolding laid
+laid-append [] i xs ys = refl
+laid-append (x ∷ a) zero [] ys = refl
+laid-append (x ∷ a) zero (y ∷ xs) ys = rw zero-add (ap (λ (l : List ℕ). y ∷ l) (rw zero-add at (laid-append a zero xs ys)))
+laid-append (x ∷ a) (suc i) xs ys = rw suc-add (ap (λ (l : List ℕ). x ∷ l) (laid-append a i xs ys))
+
+-- stores at k + j, k + (j + 1), ..: on words written out they compute to the stores that code makes, and they are these words laid
+abbrev pub stored : List ℕ → ℕ → ℕ → List ℕ → List ℕ
+stored a k j [] = a
+stored a k j (w ∷ ws) = stored (set a (k + j) w) k (suc j) ws
+
+pub stored-laid : (a : List ℕ) (k j : ℕ) (ws : List ℕ) → stored a k j ws ≡ laid a (k + j) ws
+stored-laid a k j [] = sym (laid-none a (k + j))
+stored-laid a k j (w ∷ ws) = stored-laid (set a (k + j) w) k (suc j) ws ∙ rw add-suc (sym (laid-first a (k + j) w ws))
+
+-- the same with the first store at k
+pub stored-first : (a : List ℕ) (k w : ℕ) (ws : List ℕ) → stored (set a k w) k 1 ws ≡ laid a k (w ∷ ws)
+stored-first a k w ws = stored-laid (set a k w) k 1 ws ∙ rw add-one (sym (laid-first a k w ws))
 
 pub length-laid : (a : List ℕ) (i : ℕ) (ws : List ℕ) → length (laid a i ws) ≡ length a
 unfolding laid
@@ -81,7 +103,7 @@ laid-out (x ∷ arena) (suc i) ws (suc j) n = laid-out arena i ws j (λ p q. n (
 pub new-length : (c m k : ℕ) → k < 4 → length (newRecord c m k) ≡ 8 * cells k
 new-length c m k h =
     let z : length {A = ℕ} (replicate (payload k) 0) ≡ payload k = length-replicate (payload k) 0 in
-    let r : Real k = real k h in
+    let r : Real k = by-kind k h in
     omega arith
 
 pub new-zero : (c m k w : ℕ) → getD (newRecord c m k) (2 + w) 0 ≡ 0

@@ -8,7 +8,7 @@ use native.Mathlib.Omega.{arith}
 use lib.Dec.{T, eqb, ltb, leb}
 use borrow.Author.Tests.{eqb-true, leb-true, ltb-true}
 use Rattle.model.specs.Choice.{pick, _and_, _or_}
-use Rattle.model.specs.Refusals.{Refusal, refuse}
+use Rattle.model.specs.Refusals.{Refusal, refuse, given, applies}
 use Rattle.model.proofs.Choice.{by-test, clash, and-parts, pick-map}
 
 -- no line applies
@@ -57,19 +57,15 @@ abbrev pub rising : List Refusal → Bool
 rising [] = true
 rising (g ∷ l) = atLeast (g .0) l and rising l
 
--- line n applies
-abbrev pub applies : ℕ → List Refusal → Bool
-applies n [] = false
-applies n (g ∷ l) = (eqb (g .0) n and g .1) or applies n l
-
--- the number that is given, or 0
-abbrev pub given : List Refusal → ℕ
-given l = refuse l (λ n. n) 0
-
 -- what is made of an outcome is made of each way to it
 pub refuse-map : {A B : Type 0} (g : A → B) (l : List Refusal) (f : ℕ → A) (o : A) → g (refuse l f o) ≡ refuse l (λ n. g (f n)) (g o)
 refuse-map g [] f o = refl
 refuse-map g (r ∷ l) f o = pick-map g (r .1) (f (r .0)) (refuse l f o) ∙ ap (pick (r .1) (g (f (r .0)))) (refuse-map g l f o)
+
+-- where no line applies it is accepted
+pub accepted : {A : Type 0} (l : List Refusal) (f : ℕ → A) (o : A) → Passed l → refuse l f o ≡ o
+accepted [] f o p = refl
+accepted (g ∷ l) f o p = rw (p .0) (accepted l f o (p .1))
 
 -- what a step does whose number was found first: above 0 it is refused by it, at 0, which is no line's number, it is accepted
 pub refused-by-given : {A : Type 0} (l : List Refusal) (f : ℕ → A) (o : A) → 0 < given l → refuse l f o ≡ f (given l)
@@ -77,11 +73,14 @@ refused-by-given [] f o h = absurd (omega arith)
 refused-by-given ((n, true) ∷ l) f o h = refl
 refused-by-given ((n, false) ∷ l) f o h = refused-by-given l f o h
 
+pub none-given : (l : List Refusal) → numbers (ltb 0) l ≡ true → given l ≡ 0 → Passed l
+none-given [] p e = tt
+none-given ((n, true) ∷ l) p e = absurd (omega (arith, ltb-true 0 n (and-parts (ltb 0 n) (numbers (ltb 0) l) p .0)))
+none-given ((n, false) ∷ l) p e = (refl, none-given l (and-parts (ltb 0 n) (numbers (ltb 0) l) p .1) e)
+
 pub accepted-by-given : {A : Type 0} (l : List Refusal) (f : ℕ → A) (o : A) → numbers (ltb 0) l ≡ true → given l ≡ 0
     → refuse l f o ≡ o
-accepted-by-given [] f o p e = refl
-accepted-by-given ((n, true) ∷ l) f o p e = absurd (omega (arith, ltb-true 0 n (and-parts (ltb 0 n) (numbers (ltb 0) l) p .0)))
-accepted-by-given ((n, false) ∷ l) f o p e = accepted-by-given l f o (and-parts (ltb 0 n) (numbers (ltb 0) l) p .1) e
+accepted-by-given l f o p e = accepted l f o (none-given l p e)
 
 floor : (l : List Refusal) (n m : ℕ) → T (atLeast n l) → applies m l ≡ true → n ≤ m
 floor [] n m t e = clash false e refl

@@ -82,6 +82,11 @@ says-every (suc n) f P h = says-as to (λ k. (k n (omega arith), λ x l. k x (om
     to : P n × ((x : ℕ) → x < n → P x) → (x : ℕ) → x < suc n → P x
     to p x l = ⊎-elim (λ (e : x ≡ n). rw e (p .0)) (λ (e : x ≡ n → ⊥). p .1 x (omega arith)) (same-or-not x n)
 
+-- a test that can't hold fails
+pub refute : (b : Bool) → ¬ (b ≡ true) → b ≡ false
+refute true h = absurd (h refl)
+refute false h = refl
+
 pub record Somewhere {A : Type 0} (P : A → Type 0) (d : A) (l : List A) : Type 0 where
   pub at : ℕ
   pub low : at < length l
@@ -113,14 +118,14 @@ module _ {A : Type 0} where
       from zero b p = inl p
       from (suc i) b p = inr (record { at = i; low = omega arith; holds = p })
 
-  pub all-imp : (P Q : A → Type 0) (l : List A) → ((x : A) → P x → Q x) → All P l → All Q l
-  all-imp P Q [] f h = tt
-  all-imp P Q (x ∷ l) f h = (f x (h .0), all-imp P Q l f (h .1))
-
   pub all-get : (P : A → Type 0) (l : List A) (i : ℕ) {d : A} → All P l → P d → P (getD l i d)
   all-get P [] i h p = p
   all-get P (x ∷ l) zero h p = h .0
   all-get P (x ∷ l) (suc i) h p = all-get P l i (h .1) p
+
+  -- what the tests of a whole list say of the element at a place, or of the default
+  pub all-test : (f : A → Bool) (l : List A) (i : ℕ) {d : A} → all f l ≡ true → f d ≡ true → f (getD l i d) ≡ true
+  all-test f l i e h = all-get (λ x. f x ≡ true) l i (says-all f (λ x. f x ≡ true) (λ x. says-is (f x)) l .holds e) h
 
   -- within a list what lies past its end does not matter
   pub getD-in : (l : List A) (i : ℕ) (d e : A) → i < length l → getD l i d ≡ getD l i e
@@ -137,6 +142,14 @@ module _ {A : Type 0} where
   pub at-all : (P : A → Type 0) (d : A) (l : List A) → ((i : ℕ) → i < length l → P (getD l i d)) → All P l
   at-all P d [] h = tt
   at-all P d (x ∷ l) h = (h 0 (omega arith), at-all P d l (λ i b. h (suc i) (omega arith)))
+
+  pub any-test : (f : A → Bool) (l : List A) (i : ℕ) {d : A} → any f l ≡ false → f d ≡ false → f (getD l i d) ≡ false
+  any-test f l i {d} e h =
+      all-get (λ x. f x ≡ false) l i
+      (at-all (λ x. f x ≡ false) d l (λ j p. refute (f (getD l j d)) (λ q. clash (any f l) (some j p q) e))) h
+    where
+      some : (j : ℕ) → j < length l → f (getD l j d) ≡ true → any f l ≡ true
+      some j p q = says-any f (λ x. f x ≡ true) (λ x. says-is (f x)) d l .test (record { at = j; low = p; holds = q })
 
   -- a list of one value: what it has at each place, and past its end where that is the default
   pub getD-fresh : (n i : ℕ) (x : A) → getD (replicate n x) i x ≡ x
@@ -156,11 +169,6 @@ says-same {a} {b} {P} p q = by a b p q
     by true b p q = sym (q .test (p .holds refl))
     by false true p q = p .test (q .holds refl)
     by false false p q = refl
-
--- a test that can't hold fails
-pub refute : (b : Bool) → ¬ (b ≡ true) → b ≡ false
-refute true h = absurd (h refl)
-refute false h = refl
 
 -- a test as a number, 0 or 1
 pub one-le : (b : Bool) → one b ≤ 1

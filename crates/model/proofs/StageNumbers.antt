@@ -1,11 +1,11 @@
--- The stages of a move by number, as code tests them. Assumes nothing.
-use mathlib.Core.Path.{_≡_, refl}
+-- The stages of a move by number, as code tests them; an early stage is not late. Assumes nothing.
+use mathlib.Core.Path.{_≡_, refl, ap}
 use mathlib.Core.Bool.{true, false}
-use Prim.Native.Nat.{ℕ, zero, suc}
+use Prim.Native.Nat.{ℕ, zero, suc, _≤_}
 use native.Mathlib.Omega.{arith}
 use lib.Dec.{eqb, ltb}
 use borrow.Author.Tests.{le-ltb, ne-eqb}
-use Rattle.model.specs.State.{Stage, idle, firstBarrier, copying, secondBarrier, thirdBarrier, stageOf}
+use Rattle.model.specs.State.{Stage, idle, firstBarrier, copying, secondBarrier, thirdBarrier, stageOf, inHand}
 use Rattle.model.specs.Rules.{early, late}
 use Rattle.model.proofs.Choice.{clash}
 
@@ -39,3 +39,14 @@ stage-none (suc (suc zero)) a b c d = absurd (b refl)
 stage-none (suc (suc (suc zero))) a b c d = absurd (c refl)
 stage-none (suc (suc (suc (suc zero)))) a b c d = absurd (d refl)
 stage-none (suc (suc (suc (suc (suc n))))) a b c d = refl
+
+pub in-hand : (n : ℕ) → 1 ≤ n → n ≤ 4 → inHand (stageOf n) ≡ true
+in-hand zero p q = absurd (omega arith)
+in-hand (suc zero) p q = refl
+in-hand (suc (suc zero)) p q = refl
+in-hand (suc (suc (suc zero))) p q = refl
+in-hand (suc (suc (suc (suc zero)))) p q = refl
+in-hand (suc (suc (suc (suc (suc n))))) p q = absurd (omega arith)
+
+pub out-of-hand : (n : ℕ) → (n ≡ 1 → ⊥) → (n ≡ 2 → ⊥) → (n ≡ 3 → ⊥) → (n ≡ 4 → ⊥) → inHand (stageOf n) ≡ false
+out-of-hand n a b c d = ap inHand (stage-none n a b c d)

@@ -3,12 +3,13 @@ use mathlib.Core.Path.{_≡_}
 use mathlib.Core.Bool.{Bool, true, false}
 use mathlib.Core.List.{List, [], _∷_}
 use Prim.Native.Nat.{ℕ, pred, _+_, _%_, _^_, _<_}
+use lib.Dec.{leb}
 use lib.ListN.{length, getD, set, replicate}
 use Rattle.model.specs.declared.Row.{Row}
 use Rattle.model.specs.declared.Move.{Move}
 use Rattle.model.specs.declared.Control.{Control}
 use Rattle.model.specs.declared.Answer.{Answer}
-use Rattle.model.specs.Choice.{All}
+use Rattle.model.specs.Choice.{_and_, _or_, All}
 use Rattle.model.specs.Arena.{none, IsMap}
 use Rattle.model.specs.Rows.{FourHolds, freshRow}
 use Rattle.model.specs.declared.Answer.the-variants.{Refused, Admitted, Begun, BarrierOpen, CopyingStarts, Copied, Committed}
@@ -148,3 +149,12 @@ pub record Outcome : Type 0 where
 
 abbrev pub outcome : Answer → State → Outcome
 outcome x s = record { answer = x; next = s }
+
+-- 01's answer numbers: refusals 1 to 15, 20 to 27 and 30 to 35
+abbrev pub numberOf01 : ℕ → Bool
+numberOf01 n = (leb 1 n and leb n 15) or (leb 20 n and leb n 27) or (leb 30 n and leb n 35)
+
+-- the answer is one of these; of a refusal "All memory and the control record are then as before, and the value is 0."
+pub record Answered (s : State) (o : Outcome) : Type 0 where
+  pub tabled : numberOf01 (number (o .answer)) ≡ true
+  pub unchanged : number (o .answer) < 20 → (value (o .answer) ≡ 0) × (o .next ≡ s)

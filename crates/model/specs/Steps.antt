@@ -102,13 +102,18 @@ refused s n = outcome (Refused n) s
 unfoldable pub act : State → Step → Outcome
 act s t = refuse (refusals (nameOf t) s t) (refused s) (effect (nameOf t) s t)
 
--- The library's calls: "Fresh, fill, audit and the run answer a number and a value too". 1 "arena is not 8,192 words, or table not eight rows"
+-- The library's calls: "Fresh, fill, audit and the run answer a number and a value too".
+-- 1 "arena is not 8,192 words, or table not eight rows"
 unfoldable pub wrongSize : State → Bool
 wrongSize s = not (eqb (length (s .arena)) 8192 and eqb (length (s .table)) 8)
 
 -- 2 "state breaks a rule R1 to R8"
 unfoldable pub unsound : State → Bool
 unsound s = not (eqb (firstBroken s) 0)
+
+-- what a call that works on a sound state may be refused by
+abbrev pub callRefusals : State → List Refusal
+callRefusals s = 1 if wrongSize s ∷ 2 if unsound s ∷ []
 
 -- "30 with 0, or for fill with the figure, when they succeed. Of refusals fresh and audit can give only 1, fill 1 and 2."
 unfoldable pub freshCall : State → Outcome
@@ -119,10 +124,10 @@ unfoldable pub auditCall : State → Outcome
 auditCall s = refuse (1 if wrongSize s ∷ []) (refused s) (outcome (Done (firstBroken s)) s)
 
 unfoldable pub fillCall : State → Outcome
-fillCall s = refuse (1 if wrongSize s ∷ 2 if unsound s ∷ []) (refused s) (outcome (Done (fill (s .control .map))) s)
+fillCall s = refuse (callRefusals s) (refused s) (outcome (Done (fill (s .control .map))) s)
 
 unfoldable pub stepCall : State → Step → Outcome
-stepCall s t = refuse (1 if wrongSize s ∷ 2 if unsound s ∷ []) (refused s) (act s t)
+stepCall s t = refuse (callRefusals s) (refused s) (act s t)
 
 -- what a run gives: its answer, the answer slots, and the state that it leaves
 pub record Ran : Type 0 where

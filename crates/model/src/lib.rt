@@ -51,7 +51,7 @@ pub struct Control {
     pub aborted: u32,
 }
 
-// What a call answers; specs/Answers.antt lists 01's number and value for each case.
+// What a call answers; `told` in specs/State.antt lists 01's number and value for each case.
 pub enum Answer {
     Refused(u32),
     Admitted(u32),

@@ -13,6 +13,7 @@ use Rattle.model.specs.State.{State, fresh, outcome}
 use Rattle.model.specs.Steps.{Step, act, oneByOne, stepsFrom, wrongSize, freshCall}
 use Rattle.model.specs.declared.Answer.the-variants.{Done}
 use Rattle.model.proofs.Choice.{order}
+use Rattle.model.proofs.Says.{getD-fresh}
 use Rattle.demands.specs.Log.{after}
 use Rattle.archive.specs.declared.Reply.{Reply}
 use Rattle.archive.specs.Does.{meant, wordsAfter, CallDoes}
@@ -30,11 +31,6 @@ use Rattle.play.specs.Plays.{stepsIn, perLine, runIn, sectionRun, Holds,
 use Rattle.play.proofs.Steps.{meant-is}
 
 -- numbers laid out over zeros: the same numbers, and zeros behind them
-zeros : (n i : ℕ) → _≡_ {A = ℕ} (getD (replicate n 0) i 0) 0
-zeros zero i = refl
-zeros (suc n) zero = refl
-zeros (suc n) (suc i) = zeros n i
-
 beyond : (vs : List ℕ) (i : ℕ) → length vs ≤ i → _≡_ {A = ℕ} (getD vs i 0) 0
 beyond [] i h = refl
 beyond (v ∷ vs) zero h = absurd (omega arith)
@@ -44,7 +40,7 @@ behind : (n : ℕ) (vs : List ℕ) (j : ℕ) → length vs ≤ n → _≡_ {A = 
 behind n vs j h =
     rw (sets-eq vs (replicate n 0) 0 (rw length-replicate (omega arith)))
     (getD-append-add vs (drop (0 + length vs) (replicate n 0)) j 0
-    ∙ getD-drop (0 + length vs) (replicate n 0) j 0 ∙ zeros n (0 + length vs + j))
+    ∙ getD-drop (0 + length vs) (replicate n 0) j 0 ∙ getD-fresh n (0 + length vs + j) 0)
 
 pub laid-out : (n : ℕ) (vs : List ℕ) (i : ℕ) → length vs ≤ n → getD (sets (replicate n 0) 0 vs) i 0 ≡ getD vs i 0
 laid-out n vs i h =

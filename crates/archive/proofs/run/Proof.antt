@@ -5,7 +5,8 @@ use mathlib.Core.Path.{_≡_, sym, _∙_}
 use Prim.Native.Nat.{_<_}
 use native.Mathlib.Omega.{arith}
 use Rattle.model.proofs.Choice.{said-yes, said-no}
-use Rattle.archive.proofs.Calls.{run-wrong-sizes, run-stays, run-refused-by, run-goes}
+use Rattle.model.proofs.Calls.{run-wrong-steps}
+use Rattle.archive.proofs.Calls.{run-stays, run-refused-by, run-goes}
 use Rattle.archive.proofs.run.Statement.{statement}
 use Rattle.archive.proofs.run.Tie as tie
 
@@ -18,7 +19,7 @@ same-length c = search needs
 returns : tie.Need-returns
 returns c = let s = c .before .before .before .before .before .before .before .args in
     run-stays (s .control) (now (s .arena)) (now (s .table)) 1 (now (s .steps)) (now (s .answers)) (omega arith)
-    (run-wrong-sizes _ (now (s .steps)) (now (s .answers)) (said-no (c .before .run-sizes .ensures) (c .if1 .taken)))
+    (run-wrong-steps _ (now (s .steps)) (now (s .answers)) (said-no (c .before .run-sizes .ensures) (c .if1 .taken)))
 
 refusal-requires : tie.Need-refusal-requires
 refusal-requires c κs = search needs
