@@ -1,9 +1,13 @@
 //! Every call through the exported form, beside the plain archive: the same result and, after each
 //! call, the same bytes.
 
+use std::collections::BTreeSet;
+
 use compare::step_bytes;
 use plain::bytes::{self, SIZE};
-use plain::generate::{age, damage, schedule, schedule_from, sound_buffer, Random, Weights};
+use plain::generate::{
+    age, damage, fields, schedule, schedule_from, sound_buffer, Field, Random, Weights,
+};
 use plain::readings::{of_the_rules, of_the_steps, Call};
 use plain::state::Archive;
 use plain::step::Step;
@@ -74,7 +78,7 @@ fn fresh() -> Vec<u8> {
 #[test]
 fn steps_from_fresh() {
     let mut steps = 0;
-    for seed in 0..60 {
+    for seed in 0..70 {
         let what = format!("seed {}", seed);
         let mut pair = Pair::of(&fresh());
         for step in schedule(seed, 1_500) {
@@ -83,7 +87,7 @@ fn steps_from_fresh() {
         }
         pair.looks(&what);
     }
-    assert!(steps >= 90_000);
+    assert!(steps >= 100_000);
 }
 
 #[test]
@@ -104,9 +108,12 @@ fn steps_from_sound_states_that_no_run_reaches() {
 #[test]
 fn damaged_buffers() {
     let mut broken = [0; 9];
+    let (mut offered, mut damaged) = (BTreeSet::new(), BTreeSet::new());
     for seed in 0..6_000 {
         let mut buffer = sound_buffer(seed / 4, 300);
+        offered.extend(fields(&buffer).iter().map(Field::kind));
         let field = damage(seed, &mut buffer);
+        damaged.insert(field.kind());
         let what = format!("damage of seed {} at byte {}", seed, field.at);
         let mut pair = Pair::of(&buffer);
         pair.looks(&what);
@@ -117,6 +124,7 @@ fn damaged_buffers() {
         pair.run(&step_bytes(&schedule(seed, 3)), 24, &what);
     }
     assert!(broken.iter().all(|&n| n > 20), "rules met: {:?}", broken);
+    assert_eq!(damaged, offered, "fields damaged, of those there are");
 }
 
 #[test]
@@ -130,7 +138,7 @@ fn runs_from_fresh() {
         while from < steps.len() {
             let n = (random.below(600) as usize).min(steps.len() - from);
             pair.run(&step_bytes(&steps[from..from + n]), 8 * n, &what);
-            from += n.max(1);
+            from += n;
         }
         pair.looks(&what);
     }

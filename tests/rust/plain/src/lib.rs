@@ -2,7 +2,7 @@
 //!
 //! It shares no code with the proved library: it is what that library is
 //! compared with, answer by answer and byte by byte, and the baseline of
-//! its speed. Each function quotes the sentence it follows.
+//! its speed. Most functions quote the sentence they follow.
 
 pub mod answer;
 pub mod bytes;

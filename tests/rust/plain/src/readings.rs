@@ -23,7 +23,7 @@ pub struct Reading {
     pub other: u64,
 }
 
-/// A text for replay, with what it prints and what another reading would print.
+/// A text for replay, with what it prints and, in words, what another reading would do.
 pub struct TextReading {
     pub name: &'static str,
     pub input: String,
@@ -302,7 +302,7 @@ pub fn of_the_steps() -> Vec<Reading> {
     vec![
         step(
             "BEGIN: a run that is longer than the record is a run of its length",
-            // Cells 0 and 1 are free, and cell 4 alone; meter 5 is at cell 5.
+            // Cells 0 and 1 are free, and cell 4 alone; meter 7 is at cell 13.
             with(after(&START), |a| {
                 a.step([0, 1, 4, 3, 0]).expect("meter 4 at cell 5");
                 a.step([0, 1, 5, 0, 0]).expect("meter 5 at cell 0");
@@ -429,13 +429,6 @@ pub fn of_the_steps() -> Vec<Reading> {
             |_| {},
         ),
         step(
-            "the lowest number: ATTACH of a client attached and busy is 7",
-            waiting(),
-            [1, 10, 0, 0, 0],
-            ((7, 0), (8, 0)),
-            |_| {},
-        ),
-        step(
             "the lowest number: READ when busy of an empty hold and word 99 is 8",
             waiting(),
             [1, 14, 3, 99, 0],
@@ -506,7 +499,7 @@ pub fn of_the_texts() -> Vec<TextReading> {
             "no admissions and no steps are a file",
             "0\n0\n",
             nothing,
-            "bad file 1",
+            "bad file 1: a section has a line",
         ),
         text(
             "a last line without LF is wrong itself",
@@ -524,7 +517,7 @@ pub fn of_the_texts() -> Vec<TextReading> {
             "bytes without LF at the end are an extra line",
             "0\n0\nx",
             "bad file 3\n",
-            "2",
+            "bad file 2: the line before them is not the last",
         ),
         text(
             "a missing line is the one after the last",

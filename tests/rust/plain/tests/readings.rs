@@ -28,6 +28,5 @@ fn of_texts() {
     for reading in of_the_texts() {
         let output = String::from_utf8(replay(reading.input.as_bytes())).unwrap();
         assert_eq!(output, reading.output, "{}", reading.name);
-        assert_ne!(reading.output, reading.other);
     }
 }

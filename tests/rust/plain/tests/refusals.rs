@@ -127,7 +127,7 @@ fn number_7_attached_already_and_admitted_already() {
     refused(&archive, [1, 10, 0, 0, 0], 7);
     refused(&archive, [0, 1, 3, 1, 0], 7);
     accepted(&archive, [0, 1, 2, 1, 0], (20, 2));
-    // ATTACH by a client that is busy: 7, not 8.
+    // Line 8 of the table does not name ATTACH.
     archive.table[0].phase = ready(1, 2, 0);
     refused(&archive, [1, 10, 0, 0, 0], 7);
 }

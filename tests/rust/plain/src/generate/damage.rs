@@ -25,6 +25,18 @@ impl Field {
         }
     }
 
+    /// What it is, whatever its client, meter or place.
+    pub fn kind(&self) -> String {
+        match self.group {
+            "move" | "counts" => self.name.clone(),
+            "attached row" | "unattached row" => {
+                let name = self.name.splitn(3, ' ').nth(2).unwrap_or(&self.name);
+                format!("{}: {name}", self.group)
+            }
+            group => group.to_string(),
+        }
+    }
+
     pub fn read(&self, buf: &[u8]) -> u64 {
         let bytes = buf[self.at..self.at + self.width].iter().rev();
         bytes.fold(0, |number, &byte| number << 8 | u64::from(byte))
