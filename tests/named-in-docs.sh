@@ -1,14 +1,16 @@
 #!/usr/bin/env bash
 # What docs/PROOFS.md names is there: each statement, written `crate/folder/File.antt: name, name`, is declared in its file; each file of the
-# reading order has the length that it says; and its list of wrong programs has every edit that must be refused, and no other.
+# reading order has the length that it says; and its list of wrong programs has every edit that must be refused, and no other. So are the
+# files of a crate that its own comments name.
 set -euo pipefail
 cd "$(dirname "${BASH_SOURCE[0]}")/.."
 
 fail=0
-complain() {
-    echo "docs/PROOFS.md $*"
+wrong() {
+    echo "$*"
     fail=1
 }
+complain() { wrong "docs/PROOFS.md $*"; }
 
 statements=0
 while IFS= read -r reference; do
@@ -34,6 +36,11 @@ edits=$(ls crates/*/must-fail/*.edit tests/wrong-steps/*.edit | sed -E 's#^(crat
 while IFS= read -r odd; do
     complain "and the edits differ: $odd"
 done < <(diff <(echo "$listed") <(echo "$edits") | sed -n 's/^< /listed once too often or not there: /p; s/^> /not listed: /p')
+
+while IFS=: read -r file line name; do
+    crate=${file#crates/}
+    [ -f "crates/${crate%%/*}/${name%.antt}.antt" ] || wrong "$file:$line names $name, which is not there"
+done < <(grep -rnoE '(specs|proofs)/[A-Z][A-Za-z]*(\.antt)?' crates --include='*.antt' --include='*.rt')
 
 [ "$statements" -gt 0 ] && [ "$files" -gt 0 ] || complain "names no statement, or has no reading order"
 echo "$statements names, $files lengths and $(wc -l <<<"$edits") edits looked up"
