@@ -15,10 +15,11 @@ use Rattle.model.specs.declared.Row.{Row}
 use Rattle.model.specs.Rows.{freshRow}
 use Rattle.model.specs.State.{State, number, Outcome}
 use Rattle.model.specs.Steps.{Step, act}
+use Rattle.model.proofs.Choice.{and-no}
 use Rattle.model.proofs.Says.{getD-fresh}
 use Rattle.demands.specs.Promises.{TwoOrThree, two, three}
 use Rattle.demands.specs.Log.{line, Log, after, log, said, ownAnswers}
-use Rattle.demands.proofs.Lists.{set-cases, and-false}
+use Rattle.demands.proofs.Lists.{set-cases}
 use Rattle.demands.proofs.RowLaws.{cleared-get}
 use Rattle.demands.proofs.Did.{Turn, handles, readies, waits-on, swaps, ends, SameRows, same, cleared, Did, refuses, stays, keeps}
 use Rattle.demands.proofs.Did.{acts, did}
@@ -66,7 +67,7 @@ unheard t x r e h = record { since = λ i. rw (same-phase r i, e, ne-eqb 0 (suc 
 did-since : {Right : Answer → Type 0} {s : State} {t : Step} {o : Outcome} {l : Log} → length (s .table) ≡ 8 → Did Right s t o
     → Phases (s .table) l
     → Phases (o .next .table) (line t (o .answer) ∷ l)
-did-since {t = t} e (refuses {n = n} b) h = record { since = λ i. rw (lt-leb 20 n b, and-false (eqb (t .who) (suc i))) (h .since i) }
+did-since {t = t} e (refuses {n = n} b) h = record { since = λ i. rw (lt-leb 20 n b, and-no (eqb (t .who) (suc i))) (h .since i) }
 did-since {t = t} e (stays z) h = unheard t _ same z h
 did-since {t = t} e (keeps {x = x} z _ _ r _) h = unheard t x r z h
 did-since {s = s} {t = t} {l = l} e (acts {x = x} {r = r} p q b _ u) h = record {

@@ -134,7 +134,7 @@ module _ {X : Type 0} {dir map : List ℕ} {v : Move} {arena : List ℕ} {val : 
     words8192 = length-laid arena (start c) (newRecord c a k) ∙ C .words8192;
     is-map = run-map map c (cells k) 1 (C .is-map) (omega arith);
     entries = set-cases (λ m d. d ≢ none → EntryOK X v arena′ val′ kind′ own′ m d) dir a c none in-dir (λ _. admitted) stood;
-    mapped = mapped-run own map c (cells k) a 1 (C .is-map) (run .within) (omega arith) (rw (ne-eqb a none (λ e. omega arith)) refl)
+    mapped = mapped-run own map c (cells k) a 1 (C .is-map) (omega arith) (rw (ne-eqb a none (λ e. omega arith)) refl)
         (C .mapped);
     owned = λ x. repaint-cases (λ (i : ℕ). i ≢ none → Block (set dir a c) v kind′ x i) own c (cells k) a x (λ p q _. new-block p q)
         (λ _ i. keep-block (C .owned x i));

@@ -66,7 +66,7 @@ module _ {X : Type 0} {dir map : List ℕ} {v : Move} {arena : List ℕ} {val : 
         (owns-keep own d (cells (kind a)) other m (entry dir m) (cells (kind m))
         (λ x p q i. omega (arith, run-unowned own map (cells (kind a)) d (C .mapped) run x p q, meter-lt C m n)) (C .entries m n .owns))
         (λ _. flag-head tt refl refl) (λ _ k. keep-head k);
-    mapped = mapped-run own map d (cells (kind a)) other 1 (C .is-map) (run .within) (omega arith) refl (C .mapped);
+    mapped = mapped-run own map d (cells (kind a)) other 1 (C .is-map) (omega arith) refl (C .mapped);
     owned = λ x. repaint-cases (λ (i : ℕ). i ≢ none → Block dir (firstMove a (entry dir a) d) kind x i) own d (cells (kind a)) other x
         (λ p q _. in-other (early tt) refl p q) (λ _ i. keep-block (C .owned x i));
     idle = λ l. absurd l;

@@ -12,7 +12,7 @@ use Rattle.model.specs.State.{Stage, idle, firstBarrier, copying, secondBarrier
 use Rattle.model.specs.Rules as rules
 use Rattle.model.proofs.ByKind.{Real, by-kind}
 use Rattle.demands.proofs.Stages.{first, First, Early, not-both}
-use Rattle.demands.proofs.Lists.{getD-in}
+use Rattle.model.proofs.Readings.{present-lt}
 use Rattle.demands.proofs.Owners.{other, Mapped}
 use Rattle.demands.proofs.Inv.{Flag, HoldOK, empty, here, was, HeadOK, own-head, flag-head, EntryOK, Sides, early, late, Count}
 use Rattle.demands.proofs.Inv.{Block, Core}
@@ -65,7 +65,7 @@ pub data Cell (dir : List ℕ) (v : Move) (arena : List ℕ) (h m : ℕ) : Type 
 module _ {X : Type 0} {dir map : List ℕ} {v : Move} {arena : List ℕ} {val : ℕ → ℕ → ℕ} {kind own : ℕ → ℕ}
     (C : Core X dir map v arena val kind own) where
   pub meter-lt : (m : ℕ) → entry dir m ≢ none → m < 256
-  meter-lt m n = omega (arith, getD-in dir m none n, C .entries256)
+  meter-lt = present-lt dir (C .entries256)
 
   pub entry-range : (m : ℕ) → entry dir m ≢ none → entry dir m < 1024
   entry-range m n = let E = C .entries m n in let z = by-kind (kind m) (E .kinded) in omega (arith, E .range)

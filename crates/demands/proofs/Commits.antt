@@ -19,7 +19,7 @@ use Rattle.model.proofs.Choice.{same-or-not}
 use Rattle.model.proofs.Counts.{rise-is}
 use Rattle.demands.specs.Log.{Client, Account}
 use Rattle.demands.proofs.Stages.{First, Early, not-both}
-use Rattle.demands.proofs.Lists.{getD-in, set-cases}
+use Rattle.demands.proofs.Lists.{set-cases}
 use Rattle.demands.proofs.Owners.{other, Owns, exchange, exchange-cases, mapped-exchange}
 use Rattle.demands.proofs.Inv.{HoldOK, empty, here, was, Place, at-entry, at-hold, RowOK, HeadOK, own-head, flag-head, EntryOK}
 use Rattle.demands.proofs.Inv.{Sides, early, late, SidesOK, Block, in-entry, in-other, Core, Inv}
@@ -50,7 +50,7 @@ module _ {X : Type 0} {dir map : List ℕ} {v : Move} {arena : List ℕ} {val : 
   Y = home-entry C (early l)
 
   in-dir : v .meter < length dir
-  in-dir = getD-in dir (v .meter) none (home-in C (early l))
+  in-dir = omega (arith, home-lt C (early l), C .entries256)
 
   new-entry : entry dir′ (v .meter) ≡ v .target
   new-entry = getD-set-same dir (v .meter) (v .target) none in-dir

@@ -8,7 +8,7 @@ use Prim.Native.Nat.{ℕ, suc, _+_, _*_, _≤_, _<_}
 use native.Mathlib.Omega.{arith}
 use lib.Dec.{T, eqb}
 use lib.ListN.{length, getD, set, length-set, length-map}
-use borrow.Author.Tests.{eqb-true, eqb-false, eq-eqb, ne-eqb}
+use borrow.Author.Tests.{eqb-true, eqb-false, eq-eqb}
 use Rattle.model.specs.declared.Row.{Row}
 use Rattle.model.specs.declared.Move.{Move}
 use Rattle.model.specs.Choice.{one}
@@ -21,6 +21,7 @@ use Rattle.model.specs.Rules as rules
 use Rattle.model.proofs.Choice.{by-test, same-or-not}
 use Rattle.model.proofs.ByKind.{by-kind}
 use Rattle.model.proofs.Counts.{rise-is}
+use Rattle.model.proofs.Effects.{replica-copies}
 use Rattle.demands.specs.Log.{Client, Account}
 use Rattle.demands.proofs.Stages.{never, First, Early, Late, at-stage, not-both}
 use Rattle.demands.proofs.Owners.{other, Owns}
@@ -116,14 +117,10 @@ goes-on-row {dir = dir} {v = v} {h = h} {h′ = h′} {r = r} k n p l on e gone 
     keep-hold (here u e) = here u e
     keep-hold (was y _ _) = absurd (not-both v l y)
 
--- the word that is written
+-- the word that is written, where it is the first
 first-word : (arena : List ℕ) (v : Move) → v .copied ≡ 0 → replicaWord arena v ≡ plain (v .target)
 unfolding replicaWord
 first-word arena v e = rw (eq-eqb (v .copied) 0 e)
-
-next-word : (arena : List ℕ) (v : Move) → v .copied ≢ 0 → replicaWord arena v ≡ word arena (v .from) (v .copied)
-unfolding replicaWord
-next-word arena v n = rw (ne-eqb (v .copied) 0 n)
 
 -- one word more
 module _ {X : Type 0} {dir map : List ℕ} {v : Move} {arena : List ℕ} {val : ℕ → ℕ → ℕ} {kind own : ℕ → ℕ}
@@ -164,9 +161,9 @@ module _ {X : Type 0} {dir map : List ℕ} {v : Move} {arena : List ℕ} {val : 
       (λ _. replica-cases (λ i x. i ≡ 0 → x ≡ plain (v .target)) 0 (omega arith) (λ z. first-word arena v z)
       (λ p _. C .replica-head l p) refl)
       (λ two. replica-cases (λ i x. i ≡ 1 → x ≡ labelOf (v .meter) (kind (v .meter))) 1 (omega arith)
-      (λ z. next-word arena v (λ y. omega arith) ∙ ap (word arena (v .from)) z ∙ home-entry C (early l) .label)
+      (λ z. replica-copies arena v (λ y. omega arith) ∙ ap (word arena (v .from)) z ∙ home-entry C (early l) .label)
       (λ p _. C .replica-label l p) refl)
-      (λ x f j p q. replica-cases (λ i y. 0 < i → y ≡ word arena (v .from) i) j (omega arith) (λ i. next-word arena v (λ y. omega arith))
+      (λ x f j p q. replica-cases (λ i y. 0 < i → y ≡ word arena (v .from) i) j (omega arith) (λ i. replica-copies arena v (λ y. omega arith))
       (λ b i. C .replica x f j i b) p)
 
 module _ {X : Type 0} (s : State) (g : Account) (I : Inv X s g) where

@@ -54,7 +54,7 @@ module _ {X : Type 0} {dir map : List ℕ} {v : Move} {arena : List ℕ} {val : 
       (λ m y. let E = C .entries m y in
       carry-entry E (owns-keep own d n none m (entry dir m) (cells (kind m))
       (λ x p q e. omega (arith, C .sides b .owns x p q, meter-lt C m y)) (E .owns)) (plain-head (E .head)) (λ j _ _. refl))
-      (mapped-run own map d n none 0 (C .is-map) (C .sides b .range) (omega arith) refl (C .mapped))
+      (mapped-run own map d n none 0 (C .is-map) (omega arith) refl (C .mapped))
       (λ x. repaint-cases (λ (i : ℕ). i ≢ none → Block dir noMove kind x i) own d n none x (λ _ _ e. absurd (e refl))
       (λ o i. keep-block o (C .owned x i)))
     where

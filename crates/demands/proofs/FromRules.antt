@@ -21,12 +21,11 @@ use Rattle.model.specs.Rules.{isEarly, early as early-stage, late as late-stage
 use Rattle.model.proofs.Choice.{same-or-not}
 use Rattle.model.proofs.ByKind.{by-kind}
 use Rattle.model.proofs.Says.{says-eq, says-holds, says-not, says-when, says-every, all-get, one-yes}
-use Rattle.model.proofs.Readings.{Sound, NumbersAt, HeaderRight, own-header, flag-header, HoldRight, hold-empty, hold-present, hold-old}
+use Rattle.model.proofs.Readings.{present-lt, Sound, NumbersAt, HeaderRight, own-header, flag-header, HoldRight, hold-empty, hold-present, hold-old}
 use Rattle.model.proofs.Readings.{AccessRight, PhaseRight, RowRight, SwapsAt, Owing, owed-words, waiting-owes, says-flag}
 use Rattle.model.proofs.Covers.{record-in, record-is, covers-in, covers-is, otherOver, other-early, other-late, other-by}
 use Rattle.model.proofs.Fresh.{fresh-row, fresh-swaps}
 use Rattle.demands.specs.Log.{Pending, noAccess, accessTo, Client, Account}
-use Rattle.demands.proofs.Lists.{getD-in}
 use Rattle.demands.proofs.Owners.{other, Owns}
 use Rattle.demands.proofs.Inv.{HoldOK, empty, here, was, Place, at-entry, at-hold, Asked, PhaseOK, rests, ready, waits, RowOK}
 use Rattle.demands.proofs.Inv.{HeadOK, own-head, flag-head, Sides, early, late, SidesOK, Block, in-entry, in-other, Count, Core, Inv}
@@ -95,7 +94,7 @@ module _ (s : State) (Z : Sizes s) (S : Sound s) where
   own = owner dir v arena
 
   meter-lt : (m : ℕ) → entry dir m ≢ none → m < 256
-  meter-lt m n = omega (arith, getD-in dir m none n, Z .entries)
+  meter-lt = present-lt dir (Z .entries)
 
   kind-lt : (m : ℕ) → kindIn s m < 4
   kind-lt m = omega arith

@@ -17,12 +17,13 @@ use Rattle.model.specs.Refusals.{holdsCell}
 use Rattle.model.specs.Steps.{Step, RETIRE}
 use Rattle.model.proofs.Choice.{same-or-not}
 use Rattle.model.proofs.CellMap.{run-map}
+use Rattle.model.proofs.Says.{any-test}
 use Rattle.demands.specs.Log.{Account}
 use Rattle.demands.proofs.Stages.{Idle, idle-of, idle-early, idle-late}
-use Rattle.demands.proofs.Lists.{getD-in, set-cases, any-get}
+use Rattle.demands.proofs.Lists.{set-cases}
 use Rattle.demands.proofs.Owners.{repaint, repaint-cases, owns-keep, mapped-run}
 use Rattle.demands.proofs.Inv.{HoldOK, empty, here, was, EntryOK, Sides, early, late, Block, in-entry, in-other, Core, Inv}
-use Rattle.demands.proofs.Blocks.{entry-range, held-kind}
+use Rattle.demands.proofs.Blocks.{meter-lt, entry-range, held-kind}
 use Rattle.demands.proofs.Entries.{carry-entry}
 use Rattle.demands.proofs.Keeping.{Keeps, keeps}
 use Rattle.demands.proofs.RowLaws.{redirected-row}
@@ -46,11 +47,11 @@ module _ {X : Type 0} {dir map : List ℕ} {v : Move} {arena : List ℕ} {val : 
         words8192 = C .words8192;
         is-map = run-map map (entry dir a) n 0 (C .is-map) (omega arith);
         entries = set-cases (λ m c. c ≢ none → EntryOK X v arena val kind (repaint own (entry dir a) n none) m c) dir a none none
-            (getD-in dir a none present) (λ z. absurd (z refl))
+            (omega (arith, meter-lt C a present, C .entries256)) (λ z. absurd (z refl))
             (λ m ne y. let E = C .entries m y in
             carry-entry E (owns-keep own (entry dir a) n none m (entry dir m) (cells (kind m)) (λ x p q e. ne (sym e ∙ Y .owns x p q))
             (E .owns)) (E .head) (λ j _ _. refl));
-        mapped = mapped-run own map (entry dir a) n none 0 (C .is-map) (Y .range) (omega arith) refl (C .mapped);
+        mapped = mapped-run own map (entry dir a) n none 0 (C .is-map) (omega arith) refl (C .mapped);
         owned = λ x. repaint-cases (λ (i : ℕ). i ≢ none → Block (set dir a none) v kind x i) own (entry dir a) n none x
             (λ _ _ e. absurd (e refl)) (λ o i. keep-block o (C .owned x i));
         idle = C .idle;
@@ -85,8 +86,8 @@ retire-inv {X} s g t I =
     let present : c ≢ none = eqb-false c none (k .1 .1 .0) in
     let free : (i j : ℕ) → hold (getD (s .table) i freshRow) j ≢ c =
     λ i j e. eqb-false c (hold (getD (s .table) i freshRow) j)
-    (any-get (eqb c) (getD (s .table) i freshRow .holds) none
-    (any-get (holdsCell c) (s .table) freshRow (k .1 .1 .1 .0) (none-fresh c present) i) (ne-eqb c none present) j) (sym e) in
+    (any-test (eqb c) (getD (s .table) i freshRow .holds) j
+    (any-test (holdsCell c) (s .table) i (k .1 .1 .1 .0) (none-fresh c present)) (ne-eqb c none present)) (sym e) in
     rw (held-kind (I .core) {h = c} {m = t .a} (here (entry-range (I .core) (t .a) present) refl) present)
     (record {
       own = repaint (I .own) c (cells (g .kind (t .a))) none;

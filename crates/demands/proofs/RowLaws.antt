@@ -19,8 +19,9 @@ use Rattle.model.specs.Rows.{holdOf, busy, hold, freshRow, withPassed, cleared,
 use Rattle.model.specs.State.{entry, State, withTable, withRow}
 use Rattle.model.specs.Steps.{Step, ownRow}
 use Rattle.model.proofs.Choice.{clash}
+use Rattle.model.proofs.Says.{all-test}
 use Rattle.demands.specs.Log.{noAccess, Client, Account, newClient, clientOf, withClient}
-use Rattle.demands.proofs.Lists.{set-cases, set-both, all-get}
+use Rattle.demands.proofs.Lists.{set-cases, set-both}
 use Rattle.demands.proofs.Blocks.{side-lt}
 use Rattle.demands.proofs.Inv.{Flag, HoldOK, empty, here, was, Place, at-entry, at-hold, Asked, ReadyOK, WaitingOK, PhaseOK, rests}
 use Rattle.demands.proofs.Inv.{ready, waits, Detached, RowOK, late, Rows, Inv}
@@ -131,7 +132,7 @@ pub cleared-get : (table : List Row) (i : ℕ) → getD (clearMarks table) i fre
 cleared-get table i = List·getD-map cleared table i freshRow
 
 pub passed-get : (table : List Row) → allPassed table ≡ true → (i : ℕ) → getD table i freshRow .passed ≡ true
-passed-get table e = all-get hasPassed table freshRow e refl
+passed-get table e i = all-test hasPassed table i e refl
 
 module _ {X : Type 0} {s : State} {g : Account} (I : Inv X s g) where
   pub row-in : (t : Step) → RowIn X s g (ownRow s t) (clientOf g t)

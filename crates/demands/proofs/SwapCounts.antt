@@ -16,11 +16,11 @@ use Rattle.model.specs.Arena.{flagged}
 use Rattle.model.specs.Rows.{swapsOf, freshRow, clearMarks}
 use Rattle.model.specs.State.{State, number, Outcome}
 use Rattle.model.specs.Steps.{Step}
-use Rattle.model.proofs.Choice.{same-or-not}
+use Rattle.model.proofs.Choice.{same-or-not, and-no}
 use Rattle.model.proofs.Says.{getD-fresh}
 use Rattle.demands.specs.Log.{line, Log, after, log, said, answered, answeredTo}
 use Rattle.demands.proofs.Stages.{Early}
-use Rattle.demands.proofs.Lists.{set-cases, and-false}
+use Rattle.demands.proofs.Lists.{set-cases}
 use Rattle.demands.proofs.RowLaws.{oldHeader, cleared-get}
 use Rattle.demands.proofs.Did.{Turn, handles, readies, waits-on, swaps, ends, SameRows, same, cleared, Did, refuses, stays, keeps}
 use Rattle.demands.proofs.Did.{acts, Kept, admits, retires, begins, starts, copies, fills, commits, calls-off, gives-back, did}
@@ -64,7 +64,7 @@ record SwapsTold (k : List Row) (l : Log) : Type 0 where
 unswapped : {k k′ : List Row} {l : Log} (t : Step) (x : Answer) → SameRows k k′ → number x ≢ 33 → SwapsTold k l
     → SwapsTold k′ (line t x ∷ l)
 unswapped {l = l} t x r n m = record {
-  slots = λ i. same-swaps r i ∙ m .slots i ∙ sym (rw (ne-eqb (number x) 33 n, and-false (eqb (t .who) (suc i))) (omega arith));
+  slots = λ i. same-swaps r i ∙ m .slots i ∙ sym (rw (ne-eqb (number x) 33 n, and-no (eqb (t .who) (suc i))) (omega arith));
   sum = same-total r ∙ m .sum ∙ sym (rw (ne-eqb (number x) 33 n) (omega arith));
 }
 

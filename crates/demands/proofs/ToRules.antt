@@ -25,7 +25,6 @@ use Rattle.model.proofs.Readings.{says-flag, Sound}
 use Rattle.model.proofs.Covers.{total-zero, total-one, covers-in, covers-out, record-in, record-out, otherOver, other-early, other-late}
 use Rattle.model.proofs.Covers.{other-by, blocks-are}
 use Rattle.demands.specs.Log.{Client, Account}
-use Rattle.demands.proofs.Lists.{getD-in}
 use Rattle.demands.proofs.Owners.{other}
 use Rattle.demands.proofs.Inv.{Flag, HoldOK, empty, here, was, Place, at-entry, at-hold, Asked, PhaseOK, rests, ready, waits, RowOK}
 use Rattle.demands.proofs.Inv.{HeadOK, own-head, flag-head, Sides, early, late, Block, in-entry, in-other, Count, Core, Inv}
@@ -175,7 +174,7 @@ module _ {X : Type 0} (s : State) (g : Account) (I : Inv X s g) where
 
   hold-rule : {h m : ℕ} → HoldOK dir v h m → HoldRight dir v h
   hold-rule (empty e) = hold-empty e
-  hold-rule {h} {m} (here b e) = hold-present m (getD-in dir m none (λ z. omega arith)) e
+  hold-rule {h} {m} (here b e) = hold-present m (omega (arith, meter-lt C m (λ z. omega arith), C .entries256)) e
   hold-rule (was l e f) = hold-old l e
 
   place-rule : {h m c : ℕ} → HoldOK dir v h m → h ≢ none → Place dir h m c → (c ≡ h) ⊎ (c ≡ targetOf (header arena h))
