@@ -23,7 +23,7 @@ use Rattle.demands.proofs.Lists.{set-cases}
 use Rattle.demands.proofs.Owners.{other, Owns, exchange, exchange-cases, mapped-exchange}
 use Rattle.demands.proofs.Inv.{HoldOK, empty, here, was, Place, at-entry, at-hold, RowOK, HeadOK, own-head, flag-head, EntryOK}
 use Rattle.demands.proofs.Inv.{Sides, early, late, SidesOK, Block, in-entry, in-other, Core, Inv}
-use Rattle.demands.proofs.Blocks.{meter-lt, home-in, home-lt, home-entry, home-real, side-lt}
+use Rattle.demands.proofs.Blocks.{meter-lt, home-lt, home-entry, home-real, side-lt}
 use Rattle.demands.proofs.Entries.{stored-head, stored-else, stored-entry}
 use Rattle.demands.proofs.RowLaws.{one-early, carry-phase, marked, cleared-passed, cleared-get}
 use Rattle.demands.proofs.Copying.{restaged, count-at}

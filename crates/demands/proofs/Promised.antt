@@ -12,10 +12,11 @@ use Rattle.model.specs.State.{State, Outcome, value}
 use Rattle.model.specs.Steps.{Step, act, stepCall}
 use Rattle.model.proofs.Choice.{clash}
 use Rattle.demands.specs.Log.{Line, line, Log, Program, reachedBy, historyBy, after, log, Pending, accessTo, Account, said}
-use Rattle.demands.specs.Promises.{reached, history, EachLine, LastWrite, ReadRight, AccessPrice, MovePrice, Demand2, Demand3}
+use Rattle.demands.specs.Promises.{reached, history, EachLine, LastWrite, ReadRight, AccessPrice, MovePrice, Demand1, Demand2, Demand3}
 use Rattle.demands.specs.Promises.{SoundKept, ReachedSound, RunIsSteps}
 use Rattle.demands.proofs.Kept.{sound-kept, after-sound}
 use Rattle.demands.proofs.Runs.{step-after, run-is-steps}
+use Rattle.demands.proofs.Requests.{every-request}
 use Rattle.demands.proofs.LastWritten.{access-finished}
 use Rattle.demands.proofs.MoveCounts.{begun-is-answered, committed-is-answered, aborted-is-answered, call-off-takes, give-back-takes}
 use Rattle.demands.proofs.SwapCounts.{swaps-are-answered, slot-swaps-at-most-begun, all-swaps-at-most-begun}
@@ -52,6 +53,10 @@ each-line P h l = rw (history-is l) (by l)
     by : (l : List Step) → EachLine P (log l)
     by [] = tt
     by (t ∷ l) = (h l t, by l)
+
+-- Demand 1
+pub demand1 : Demand1
+demand1 = every-request
 
 -- Demand 2
 last-write : (g : Account) (m : ℕ) (x : Access) (v : ℕ) → isWrite x ≡ false → v ≡ g .lastWritten m (wordOf x) → LastWrite g (accessTo m x) v

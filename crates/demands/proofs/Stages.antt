@@ -7,9 +7,10 @@ use Prim.Native.Nat.{ℕ, zero, suc}
 use lib.Dec.{T}
 use lib.ListN.{getD}
 use Rattle.model.specs.declared.Move.{Move}
-use Rattle.model.specs.Choice.{_and_, _⇒_, all}
+use Rattle.model.specs.Choice.{_⇒_, all}
 use Rattle.model.specs.State.{Stage, idle, firstBarrier, copying, secondBarrier, thirdBarrier, stageOf, inHand}
 use Rattle.model.specs.Rules.{early, late}
+use Rattle.model.proofs.Choice.{both-hold}
 
 abbrev pub first : Stage → Bool
 first idle = false
@@ -37,14 +38,10 @@ Late v = T (late (stageOf (v .stage)))
 abbrev stages : List Stage
 stages = idle ∷ firstBarrier ∷ copying ∷ secondBarrier ∷ thirdBarrier ∷ []
 
-both : (a b : Bool) → T (a and b) → T a × T b
-both true b u = (tt, u)
-both false b u = absurd u
-
 all-stages : (f : Stage → Bool) (l : List Stage) → T (all f l) → (n : ℕ) (d : Stage) → T (f d) → T (f (getD l n d))
 all-stages f [] t n d u = u
-all-stages f (x ∷ l) t zero d u = both (f x) (all f l) t .0
-all-stages f (x ∷ l) t (suc n) d u = all-stages f l (both (f x) (all f l) t .1) n d u
+all-stages f (x ∷ l) t zero d u = both-hold (f x) (all f l) t .0
+all-stages f (x ∷ l) t (suc n) d u = all-stages f l (both-hold (f x) (all f l) t .1) n d u
 
 follows : (p q r : Bool) → T (p ⇒ q ⇒ r) → T p → T q → T r
 follows true true r t a b = t
@@ -56,7 +53,7 @@ pub at-stage : (p q r : Stage → Bool) → T (all (λ g. p g ⇒ q g ⇒ r g) s
     → T (r (stageOf n))
 at-stage p q r t n =
     follows (p (stageOf n)) (q (stageOf n)) (r (stageOf n))
-    (all-stages (λ g. p g ⇒ q g ⇒ r g) stages t n idle (both (p idle ⇒ q idle ⇒ r idle) _ t .0))
+    (all-stages (λ g. p g ⇒ q g ⇒ r g) stages t n idle (both-hold (p idle ⇒ q idle ⇒ r idle) _ t .0))
 
 pub not-both : (v : Move) → Early v → Late v → ⊥
 not-both v = at-stage early late never tt (v .stage)
