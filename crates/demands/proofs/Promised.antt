@@ -12,11 +12,11 @@ use Rattle.model.specs.State.{State, Outcome, value}
 use Rattle.model.specs.Steps.{Step, act, stepCall}
 use Rattle.model.proofs.Choice.{clash}
 use Rattle.demands.specs.Log.{Line, line, Log, Program, reachedBy, historyBy, after, log, Pending, accessTo, Account, said}
-use Rattle.demands.specs.Promises.{reached, history, EachLine, LastWrite, ReadRight, AccessPrice, MovePrice, Demand1, Demand2, Demand3}
+use Rattle.demands.specs.Promises.{reached, history, EachLine, LastWrite, ReadRight, IsWrite, WriteRight, AccessPrice, MovePrice, Demand1, Demand2, Demand3}
 use Rattle.demands.specs.Promises.{SoundKept, ReachedSound, RunIsSteps}
 use Rattle.demands.proofs.Kept.{sound-kept, after-sound}
 use Rattle.demands.proofs.Runs.{step-after, run-is-steps}
-use Rattle.demands.proofs.Requests.{every-request}
+use Rattle.demands.proofs.Requests.{fresh-request, audit-request, fill-request, step-request, run-request}
 use Rattle.demands.proofs.LastWritten.{access-finished}
 use Rattle.demands.proofs.MoveCounts.{begun-is-answered, committed-is-answered, aborted-is-answered, call-off-takes, give-back-takes}
 use Rattle.demands.proofs.SwapCounts.{swaps-are-answered, slot-swaps-at-most-begun, all-swaps-at-most-begun}
@@ -56,7 +56,8 @@ each-line P h l = rw (history-is l) (by l)
 
 -- Demand 1
 pub demand1 : Demand1
-demand1 = every-request
+demand1 s =
+    record { fresh = fresh-request s; audit = audit-request s; fill = fill-request s; step = step-request s; run = run-request s }
 
 -- Demand 2
 last-write : (g : Account) (m : ℕ) (x : Access) (v : ℕ) → isWrite x ≡ false → v ≡ g .lastWritten m (wordOf x) → LastWrite g (accessTo m x) v
@@ -69,8 +70,17 @@ read-right l t e =
     subst (λ (p : Pending). LastWrite (said (log l)) p (value (act (after l) t .answer))) (sym (F .pending))
     (last-write (said (log l)) (F .meter) (F .access) (value (act (after l) t .answer)) (F .writes ∙ rw e refl) (F .last tt e))
 
+is-write : (m : ℕ) (x : Access) → isWrite x ≡ true → IsWrite (accessTo m x)
+is-write m (Read h w) e = clash false e refl
+is-write m (Write h w y) e = tt
+
+write-right : (l : List Step) (t : Step) → WriteRight (line t (act (after l) t .answer)) (log l)
+write-right l t e =
+    let F = access-finished l t (omega arith) in
+    subst IsWrite (sym (F .pending)) (is-write (F .meter) (F .access) (F .writes ∙ rw e refl))
+
 pub demand2 : Demand2
-demand2 = each-line ReadRight read-right
+demand2 l = (each-line ReadRight read-right l, each-line WriteRight write-right l)
 
 -- Demand 3
 move-price : (l : List Step) (t : Step) → MovePrice (line t (act (after l) t .answer)) (log l)

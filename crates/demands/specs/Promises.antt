@@ -74,6 +74,18 @@ ReadRight x before = number (x .answer) ≡ 34 → LastWrite (said before) (clie
 abbrev pub ReadsLastWrite : Log → Type 0
 ReadsLastWrite l = EachLine ReadRight l
 
+-- a line answered 35 finishes a write
+abbrev pub IsWrite : Pending → Type 0
+IsWrite noAccess = ⊥
+IsWrite (accessTo meter (Read h w)) = ⊥
+IsWrite (accessTo meter (Write h w x)) = Unit {0}
+
+abbrev pub WriteRight : Line → Log → Type 0
+WriteRight x before = number (x .answer) ≡ 35 → IsWrite (clientOf (said before) (x .step) .pending)
+
+abbrev pub FinishesWrites : Log → Type 0
+FinishesWrites l = EachLine WriteRight l
+
 -- Demand 3. "no client slot has made more swaps than moves were begun"
 abbrev pub SlotSwaps : Log → Type 0
 SlotSwaps l = (client : ℕ) → answeredTo (suc client) 33 l ≤ answered 21 l
@@ -118,7 +130,7 @@ abbrev pub Demand1 : Type 0
 Demand1 = (s : State) → EveryRequest s
 
 abbrev pub Demand2 : Type 0
-Demand2 = (l : List Step) → ReadsLastWrite (history l)
+Demand2 = (l : List Step) → ReadsLastWrite (history l) × FinishesWrites (history l)
 
 abbrev pub Demand3 : Type 0
 Demand3 = (l : List Step) → Price (history l) × CountsTrue (reached l) (history l)
