@@ -17,11 +17,12 @@ use Rattle.model.specs.Steps.{Step, ADMIT}
 use Rattle.model.proofs.ByKind.{by-kind}
 use Rattle.model.proofs.CellMap.{FreeRun, run-map, lowest-free}
 use Rattle.model.proofs.Records.{length-laid, laid-in, new-length, new-zero}
+use Rattle.model.proofs.Readings.{own-header}
 use Rattle.demands.specs.Log.{Client, Account, update}
 use Rattle.demands.proofs.Lists.{set-cases}
 use Rattle.demands.proofs.Owners.{other, Owns, repaint, repaint-cases, repaint-in, owns-keep, mapped-run, run-unowned}
 use Rattle.demands.proofs.Words.{laid-else}
-use Rattle.demands.proofs.Inv.{RowOK, own-head, EntryOK, Sides, early, late, SidesOK, Block, in-entry, in-other, Count, Core, Inv}
+use Rattle.demands.proofs.Inv.{RowOK, EntryOK, Sides, early, late, SidesOK, Block, in-entry, in-other, Count, Core, Inv}
 use Rattle.demands.proofs.Blocks.{meter-lt, home-in, home-lt, home-entry, home-real, copied-fit, held-in}
 use Rattle.demands.proofs.Entries.{carry-entry, same-account}
 use Rattle.demands.proofs.RowLaws.{reflag-row, redirected-row}
@@ -85,7 +86,7 @@ module _ {X : Type 0} {dir map : List ℕ} {v : Move} {arena : List ℕ} {val : 
         range = run .within;
         label = new-word 1 (omega arith);
         owns = repaint-in own c (cells k) a;
-        head = own-head (new-word 0 (omega arith));
+        head = own-header (new-word 0 (omega arith));
         vals = λ _ w b. new-word (2 + w) (omega arith) ∙ new-zero c a k w;
       })
 

@@ -11,11 +11,10 @@ use Rattle.model.specs.Arena.{cells, words, none, header, plain, flagged, label
 use Rattle.model.specs.State.{Stage, idle, firstBarrier, copying, secondBarrier, thirdBarrier, stageOf, noMove, entry}
 use Rattle.model.specs.Rules as rules
 use Rattle.model.proofs.ByKind.{Real, by-kind}
-use Rattle.demands.proofs.Stages.{first, First, Early, not-both}
-use Rattle.model.proofs.Readings.{present-lt}
+use Rattle.demands.proofs.Stages.{first, First, not-both}
+use Rattle.model.proofs.Readings.{present-lt, FlagUp, HeaderRight, own-header, flag-header, Early}
 use Rattle.demands.proofs.Owners.{other, Mapped}
-use Rattle.demands.proofs.Inv.{Flag, HoldOK, empty, here, was, HeadOK, own-head, flag-head, EntryOK, Sides, early, late, Count}
-use Rattle.demands.proofs.Inv.{Block, Core}
+use Rattle.demands.proofs.Inv.{HoldOK, empty, here, was, EntryOK, Sides, early, late, Count, Block, Core}
 
 pub copied-le : (g : Stage) (z n : ℕ) → T (rules.early g) → Count g z n → n ≤ z
 copied-le idle z n l k = absurd l
@@ -59,7 +58,7 @@ still d a m entries mapped owned = record {
 -- a filled hold's cell: its header is plain and names the meter's entry t, or it is the moved record's, flagged
 pub data Cell (dir : List ℕ) (v : Move) (arena : List ℕ) (h m : ℕ) : Type 0 where
   unflagged : (t : ℕ) → header arena h ≡ plain t → entry dir m ≡ t → t < 1024
-      → (Flag v (header arena (v .from)) → (t ≢ v .from) × (h ≢ v .from)) → Cell dir v arena h m
+      → (FlagUp v arena → (t ≢ v .from) × (h ≢ v .from)) → Cell dir v arena h m
   flagged-cell : header arena h ≡ flagged h → entry dir m ≡ h → h < 1024 → Early v → h ≡ v .from → Cell dir v arena h m
 
 module _ {X : Type 0} {dir map : List ℕ} {v : Move} {arena : List ℕ} {val : ℕ → ℕ → ℕ} {kind own : ℕ → ℕ}
@@ -133,11 +132,11 @@ module _ {X : Type 0} {dir map : List ℕ} {v : Move} {arena : List ℕ} {val : 
       E : EntryOK X v arena val kind own m h
       E = rw e at (C .entries m (rw e n))
 
-      from : HeadOK v m h (header arena h) → Cell dir v arena h m
-      from (own-head p) =
-          let apart : Flag v (header arena (v .from)) → h ≢ v .from = λ f z. omega (arith, f .1, ap (header arena) z) in
+      from : HeaderRight v m h (header arena h) → Cell dir v arena h m
+      from (own-header p) =
+          let apart : FlagUp v arena → h ≢ v .from = λ f z. omega (arith, f .1, ap (header arena) z) in
           unflagged h p e r (λ f. (apart f, apart f))
-      from (flag-head l p o) = flagged-cell o e r l (sym e ∙ ap (entry dir) p ∙ C .sides (early l) .home)
+      from (flag-header l p o) = flagged-cell o e r l (sym e ∙ ap (entry dir) p ∙ C .sides (early l) .home)
   cell {h} {m} (was l e f) n =
       let S = C .sides (late l) in
       unflagged (v .target) (rw e (C .old-head l)) (rw f (S .home)) (S .inside) (λ k. absurd (not-both v (k .0) l))

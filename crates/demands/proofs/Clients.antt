@@ -24,8 +24,8 @@ use Rattle.model.specs.Steps.{Step, Name, ATTACH, DETACH, OPEN, DROP, READ, WRI
 use Rattle.model.proofs.Choice.{by-test, clash}
 use Rattle.model.proofs.Refusals.{Passed}
 use Rattle.model.proofs.Says.{getD-fresh}
+use Rattle.model.proofs.Readings.{Late}
 use Rattle.demands.specs.Log.{accessTo, Client, Account, newClient, clientOf, withHold, withPending, begins, doneBy, told}
-use Rattle.demands.proofs.Stages.{Late}
 use Rattle.demands.proofs.Lists.{set-cases, set-both}
 use Rattle.demands.proofs.Keeping.{Keeps, keeps}
 use Rattle.demands.proofs.Inv.{HoldOK, empty, here, at-entry, Asked, PhaseOK, rests, ready, waits, late, Core, Inv}

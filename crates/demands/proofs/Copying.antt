@@ -22,12 +22,13 @@ use Rattle.model.proofs.Choice.{by-test, same-or-not}
 use Rattle.model.proofs.ByKind.{by-kind}
 use Rattle.model.proofs.Counts.{rise-is}
 use Rattle.model.proofs.Effects.{replica-copies}
+use Rattle.model.proofs.Readings.{Flag, FlagUp, HeaderRight, own-header, flag-header, Early, Late}
 use Rattle.demands.specs.Log.{Client, Account}
-use Rattle.demands.proofs.Stages.{never, First, Early, Late, at-stage, not-both}
+use Rattle.demands.proofs.Stages.{never, First, at-stage, not-both}
 use Rattle.demands.proofs.Owners.{other, Owns}
 use Rattle.demands.proofs.Words.{put-at, put-else}
-use Rattle.demands.proofs.Inv.{Flag, HoldOK, empty, here, was, RowOK, HeadOK, own-head, flag-head, Sides, early, late, SidesOK}
-use Rattle.demands.proofs.Inv.{Block, in-entry, in-other, Count, Core, Inv}
+use Rattle.demands.proofs.Inv.{HoldOK, empty, here, was, RowOK, Sides, early, late, SidesOK, Block, in-entry, in-other, Count, Core}
+use Rattle.demands.proofs.Inv.{Inv}
 use Rattle.demands.proofs.Blocks.{meter-lt, home-lt, home-entry, home-real, copied-le, from-kind}
 use Rattle.demands.proofs.Entries.{carry-entry}
 use Rattle.demands.proofs.RowLaws.{one-early, carry-phase, marked, cleared-passed, cleared-get, passed-get}
@@ -40,9 +41,9 @@ restaged v k n = record { stage = k; meter = v .meter; from = v .from; target = 
 module _ {X : Type 0} {dir map : List ℕ} {v : Move} {arena : List ℕ} {val : ℕ → ℕ → ℕ} {kind own : ℕ → ℕ}
     (C : Core X dir map v arena val kind own)
     (l : Early v) (k n : ℕ) (on : T (rules.early (stageOf k))) where
-  keep-head : {m c h : ℕ} → HeadOK v m c h → HeadOK (restaged v k n) m c h
-  keep-head (own-head p) = own-head p
-  keep-head (flag-head _ p q) = flag-head on p q
+  keep-head : {m c h : ℕ} → HeaderRight v m c h → HeaderRight (restaged v k n) m c h
+  keep-head (own-header p) = own-header p
+  keep-head (flag-header _ p q) = flag-header on p q
 
   keep-block : {x i : ℕ} → Block dir v kind x i → Block dir (restaged v k n) kind x i
   keep-block (in-entry p q r) = in-entry p q r
@@ -61,7 +62,7 @@ module _ {X : Type 0} {dir map : List ℕ} {v : Move} {arena : List ℕ} {val : 
       → ((i d z j : ℕ) → i < 256 → Owns own i d z → j < 8 * z → word arena′ d j ≡ word arena d j)
       → Count (stageOf k) (words (kind (v .meter))) n → (0 < n → header arena′ (v .target) ≡ plain (v .target))
       → (1 < n → label arena′ (v .target) ≡ labelOf (v .meter) (kind (v .meter)))
-      → (X → Flag v (header arena (v .from)) → (j : ℕ) → 0 < j → j < n → word arena′ (v .target) j ≡ word arena (v .from) j)
+      → (X → FlagUp v arena → (j : ℕ) → 0 < j → j < n → word arena′ (v .target) j ≡ word arena (v .from) j)
       → Core X dir map (restaged v k n) arena′ val kind own
   goes-on arena′ len same count head lab replica = record {
     entries256 = C .entries256;

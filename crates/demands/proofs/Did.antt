@@ -35,8 +35,9 @@ use Rattle.model.proofs.Parties.{ofKeeper, ofClient, keeper-who, client-who}
 use Rattle.model.proofs.CellMap.{lowest-free}
 use Rattle.model.proofs.Counts.{rise-is}
 use Rattle.model.proofs.Refusals.{Passed, numbers, each, by-refusals}
+use Rattle.model.proofs.Readings.{Early}
 use Rattle.demands.specs.Log.{accessTo, Account, clientOf}
-use Rattle.demands.proofs.Stages.{Idle, Early, idle-of}
+use Rattle.demands.proofs.Stages.{Idle, idle-of}
 use Rattle.demands.proofs.Inv.{rests, ready, waits, Inv, early}
 use Rattle.demands.proofs.Blocks.{entry-range, home-real}
 use Rattle.demands.proofs.RowLaws.{oldHeader, PhaseIn, ReadyIn, one-early, phase-rests, row-in}

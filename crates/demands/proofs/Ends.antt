@@ -19,11 +19,11 @@ use Rattle.model.specs.Steps.{Step, ADVANCE}
 use Rattle.model.proofs.Choice.{by-test}
 use Rattle.model.proofs.CellMap.{run-map}
 use Rattle.model.proofs.Counts.{rise-is}
+use Rattle.model.proofs.Readings.{FlagUp, HeaderRight, own-header, flag-header, Early, Late}
 use Rattle.demands.specs.Log.{Client, Account}
-use Rattle.demands.proofs.Stages.{Early, Late, not-both}
+use Rattle.demands.proofs.Stages.{not-both}
 use Rattle.demands.proofs.Owners.{repaint, repaint-cases, owns-keep, mapped-run}
-use Rattle.demands.proofs.Inv.{Flag, HoldOK, empty, here, was, RowOK, HeadOK, own-head, flag-head, Sides, early, late, Block}
-use Rattle.demands.proofs.Inv.{in-entry, in-other, Core, Inv}
+use Rattle.demands.proofs.Inv.{HoldOK, empty, here, was, RowOK, Sides, early, late, Block, in-entry, in-other, Core, Inv}
 use Rattle.demands.proofs.Blocks.{still, meter-lt, from-kind}
 use Rattle.demands.proofs.Entries.{carry-entry}
 use Rattle.demands.proofs.RowLaws.{one-early, one-not, carry-phase, passed-get}
@@ -40,10 +40,10 @@ one-side (late _) (late _) = refl
 
 module _ {X : Type 0} {dir map : List ℕ} {v : Move} {arena : List ℕ} {val : ℕ → ℕ → ℕ} {kind own : ℕ → ℕ}
     (C : Core X dir map v arena val kind own)
-    (down : Flag v (header arena (v .from)) → ⊥) {c d : ℕ} (b : Sides v c d) where
-  plain-head : {m : ℕ} → HeadOK v m (entry dir m) (header arena (entry dir m)) → HeadOK noMove m (entry dir m) (header arena (entry dir m))
-  plain-head (own-head p) = own-head p
-  plain-head {m} (flag-head l p h) =
+    (down : FlagUp v arena → ⊥) {c d : ℕ} (b : Sides v c d) where
+  plain-head : {m : ℕ} → HeaderRight v m (entry dir m) (header arena (entry dir m)) → HeaderRight noMove m (entry dir m) (header arena (entry dir m))
+  plain-head (own-header p) = own-header p
+  plain-head {m} (flag-header l p h) =
       let z : entry dir m ≡ v .from = ap (entry dir) p ∙ C .sides (early l) .home in
       absurd (down (l, ap (header arena) (sym z) ∙ h ∙ ap flagged z))
 

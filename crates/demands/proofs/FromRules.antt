@@ -21,14 +21,14 @@ use Rattle.model.specs.Rules.{isEarly, early as early-stage, late as late-stage
 use Rattle.model.proofs.Choice.{same-or-not}
 use Rattle.model.proofs.ByKind.{by-kind}
 use Rattle.model.proofs.Says.{says-eq, says-holds, says-not, says-when, says-every, all-get, one-yes}
-use Rattle.model.proofs.Readings.{present-lt, Sound, NumbersAt, HeaderRight, own-header, flag-header, HoldRight, hold-empty, hold-present, hold-old}
-use Rattle.model.proofs.Readings.{AccessRight, PhaseRight, RowRight, SwapsAt, Owing, owed-words, waiting-owes, says-flag}
+use Rattle.model.proofs.Readings.{present-lt, Sound, NumbersAt, HoldRight, hold-empty, hold-present, hold-old, AccessRight, PhaseRight}
+use Rattle.model.proofs.Readings.{RowRight, SwapsAt, Owing, owed-words, waiting-owes, says-flag}
 use Rattle.model.proofs.Covers.{record-in, record-is, covers-in, covers-is, otherOver, other-early, other-late, other-by}
 use Rattle.model.proofs.Fresh.{fresh-row, fresh-swaps}
 use Rattle.demands.specs.Log.{Pending, noAccess, accessTo, Client, Account}
 use Rattle.demands.proofs.Owners.{other, Owns}
-use Rattle.demands.proofs.Inv.{HoldOK, empty, here, was, Place, at-entry, at-hold, Asked, PhaseOK, rests, ready, waits, RowOK}
-use Rattle.demands.proofs.Inv.{HeadOK, own-head, flag-head, Sides, early, late, SidesOK, Block, in-entry, in-other, Count, Core, Inv}
+use Rattle.demands.proofs.Inv.{HoldOK, empty, here, was, Place, at-entry, at-hold, Asked, PhaseOK, rests, ready, waits, RowOK, Sides}
+use Rattle.demands.proofs.Inv.{early, late, SidesOK, Block, in-entry, in-other, Count, Core, Inv}
 use Rattle.demands.proofs.Blocks.{Cell, unflagged, flagged-cell, held-kind, cell}
 use Rattle.demands.proofs.Cover.{owner, Owner, beyond, nobody, the-other, a-record, owner-is, owner-record, owner-other}
 use Rattle.demands.proofs.Cover.{owner-mapped}
@@ -155,10 +155,6 @@ module _ (s : State) (Z : Sizes s) (S : Sound s) where
       side : {c d : ℕ} → Sides v c d → covers d (cellsAt arena (v .from)) x ≡ 1 → Block dir v (kindIn s) x other
       side {c} {d} b e = let o = covers-is d (cellsAt arena (v .from)) x e in in-other b refl (o .0) (omega (arith, o .1, from-cells b))
 
-  head-of : {m c h : ℕ} → HeaderRight v m c h → HeadOK v m c h
-  head-of (own-header e) = own-head e
-  head-of (flag-header l n e) = flag-head l n e
-
   core-of : Core ⊥ dir (s .control .map) v arena (λ m w. 0) (kindIn s) own
   core-of =
       record {
@@ -171,7 +167,7 @@ module _ (s : State) (Z : Sizes s) (S : Sound s) where
               range = S .r1 m (meter-lt m n) n .within;
               label = label-is m n;
               owns = own-entry m n;
-              head = head-of (S .r4 .entries m (meter-lt m n) n);
+              head = S .r4 .entries m (meter-lt m n) n;
               vals = λ x. absurd x;
             };
         mapped = owner-mapped dir v arena (s .control .map) (S .r3) (Z .entries);

@@ -1,7 +1,7 @@
 -- Demand 1: a request is refused by the lowest line that applies and by none otherwise, and changes nothing then, on any state: the lines
 -- of each request rise, and what no line refuses is answered from 20 on. Assumes nothing.
 use mathlib.Core.Path.{_≡_, refl, ap}
-use mathlib.Core.Bool.{true, not}
+use mathlib.Core.Bool.{true}
 use mathlib.Core.List.{List, [], _∷_, _++_}
 use Prim.Native.Nat.{ℕ, _≤_, _<_}
 use native.Mathlib.Omega.{arith}

@@ -20,11 +20,12 @@ use Rattle.model.specs.State.{entry, State, withTable, withRow}
 use Rattle.model.specs.Steps.{Step, ownRow}
 use Rattle.model.proofs.Choice.{clash}
 use Rattle.model.proofs.Says.{all-test}
+use Rattle.model.proofs.Readings.{Flag, FlagUp}
 use Rattle.demands.specs.Log.{noAccess, Client, Account, newClient, clientOf, withClient}
 use Rattle.demands.proofs.Lists.{set-cases, set-both}
 use Rattle.demands.proofs.Blocks.{side-lt}
-use Rattle.demands.proofs.Inv.{Flag, HoldOK, empty, here, was, Place, at-entry, at-hold, Asked, ReadyOK, WaitingOK, PhaseOK, rests}
-use Rattle.demands.proofs.Inv.{ready, waits, Detached, RowOK, late, Rows, Inv}
+use Rattle.demands.proofs.Inv.{HoldOK, empty, here, was, Place, at-entry, at-hold, Asked, ReadyOK, WaitingOK, PhaseOK, rests, ready}
+use Rattle.demands.proofs.Inv.{waits, Detached, RowOK, late, Rows, Inv}
 
 -- what the invariant says, in state s, of row r and client q, and of the phase of the row whose step it is
 abbrev pub oldHeader : State → ℕ
@@ -141,7 +142,7 @@ module _ {X : Type 0} {s : State} {g : Account} (I : Inv X s g) where
   -- a row without holds that rests, of a client that has opened nothing
   pub empty-row : (r : Row) → ((i : ℕ) → hold r i ≡ none) → length (r .holds) ≡ 4 → r .passed ≡ true → r .phase ≡ Resting
       → r .swaps ≤ s .control .begun
-      → (Flag (s .control .mv) (header (s .arena) (s .control .mv .from)) → r .swaps < s .control .begun) → RowIn X s g r newClient
+      → (FlagUp (s .control .mv) (s .arena) → r .swaps < s .control .begun) → RowIn X s g r newClient
   empty-row r n f p e le lt = record {
     four = f;
     holds = λ i. empty (n i);

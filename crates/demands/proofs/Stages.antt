@@ -11,6 +11,7 @@ use Rattle.model.specs.Choice.{_⇒_, all}
 use Rattle.model.specs.State.{Stage, idle, firstBarrier, copying, secondBarrier, thirdBarrier, stageOf, inHand}
 use Rattle.model.specs.Rules.{early, late}
 use Rattle.model.proofs.Choice.{both-hold}
+use Rattle.model.proofs.Readings.{Early, Late}
 
 abbrev pub first : Stage → Bool
 first idle = false
@@ -22,18 +23,12 @@ first thirdBarrier = false
 abbrev pub never : Stage → Bool
 never g = false
 
--- of a move: none in hand; at the first barrier; in its first three stages; at the third barrier
+-- of a move: none in hand; at the first barrier
 abbrev pub Idle : Move → Type 0
 Idle v = T (not (inHand (stageOf (v .stage))))
 
 abbrev pub First : Move → Type 0
 First v = T (first (stageOf (v .stage)))
-
-abbrev pub Early : Move → Type 0
-Early v = T (early (stageOf (v .stage)))
-
-abbrev pub Late : Move → Type 0
-Late v = T (late (stageOf (v .stage)))
 
 abbrev stages : List Stage
 stages = idle ∷ firstBarrier ∷ copying ∷ secondBarrier ∷ thirdBarrier ∷ []

@@ -18,8 +18,8 @@ use Rattle.model.specs.State.{State, number, Outcome}
 use Rattle.model.specs.Steps.{Step}
 use Rattle.model.proofs.Choice.{same-or-not, and-no}
 use Rattle.model.proofs.Says.{getD-fresh}
+use Rattle.model.proofs.Readings.{Early}
 use Rattle.demands.specs.Log.{line, Log, after, log, said, answered, answeredTo}
-use Rattle.demands.proofs.Stages.{Early}
 use Rattle.demands.proofs.Lists.{set-cases}
 use Rattle.demands.proofs.RowLaws.{oldHeader, cleared-get}
 use Rattle.demands.proofs.Did.{Turn, handles, readies, waits-on, swaps, ends, SameRows, same, cleared, Did, refuses, stays, keeps}

@@ -19,15 +19,14 @@ use Rattle.model.specs.State.{Stage, idle, firstBarrier, copying, secondBarrier
 use Rattle.model.specs.Rules.{early as early-stage, late as late-stage, covers, recordCovers, flagUp}
 use Rattle.model.proofs.Choice.{by-test, clash, order}
 use Rattle.model.proofs.Says.{says-eq, says-not, at-all}
-use Rattle.model.proofs.Readings.{RecordsRight, MoveRight, CellsRight, HeadersRight, HeaderRight, own-header, flag-header, NumbersAt}
-use Rattle.model.proofs.Readings.{HoldRight, hold-empty, hold-present, hold-old, AccessRight, PhaseRight, RowRight, SwapsAt, Owing, owed-le}
-use Rattle.model.proofs.Readings.{says-flag, Sound}
+use Rattle.model.proofs.Readings.{RecordsRight, MoveRight, CellsRight, HeadersRight, NumbersAt, HoldRight, hold-empty, hold-present}
+use Rattle.model.proofs.Readings.{hold-old, AccessRight, PhaseRight, RowRight, SwapsAt, Owing, owed-le, says-flag, Sound}
 use Rattle.model.proofs.Covers.{total-zero, total-one, covers-in, covers-out, record-in, record-out, otherOver, other-early, other-late}
 use Rattle.model.proofs.Covers.{other-by, blocks-are}
 use Rattle.demands.specs.Log.{Client, Account}
 use Rattle.demands.proofs.Owners.{other}
-use Rattle.demands.proofs.Inv.{Flag, HoldOK, empty, here, was, Place, at-entry, at-hold, Asked, PhaseOK, rests, ready, waits, RowOK}
-use Rattle.demands.proofs.Inv.{HeadOK, own-head, flag-head, Sides, early, late, Block, in-entry, in-other, Count, Core, Inv}
+use Rattle.demands.proofs.Inv.{HoldOK, empty, here, was, Place, at-entry, at-hold, Asked, PhaseOK, rests, ready, waits, RowOK, Sides}
+use Rattle.demands.proofs.Inv.{early, late, Block, in-entry, in-other, Count, Core, Inv}
 use Rattle.demands.proofs.Blocks.{Cell, unflagged, flagged-cell, meter-lt, entry-range, home-in, home-entry, from-kind, held-kind}
 use Rattle.demands.proofs.Blocks.{cell}
 
@@ -157,11 +156,7 @@ module _ {X : Type 0} (s : State) (g : Account) (I : Inv X s g) where
       somebody t = owned-once x refl (C .owned x (eqb-false (I .own x) none t))
 
   rule4 : HeadersRight dir v arena
-  rule4 = record { entries = λ m b n. from (C .entries m n .head); old = C .old-head }
-    where
-      from : {m c h : ℕ} → HeadOK v m c h → HeaderRight v m c h
-      from (own-head e) = own-header e
-      from (flag-head l n e) = flag-header l n e
+  rule4 = record { entries = λ m b n. C .entries m n .head; old = C .old-head }
 
   rule5 : NumbersAt (stageOf (v .stage)) v (wordsAt arena (v .from))
   rule5 =
@@ -208,20 +203,17 @@ module _ {X : Type 0} (s : State) (g : Account) (I : Inv X s g) where
   swaps-rule : (r : Row) (q : Client) → RowOf r q → SwapsAt (flagUp v arena) (v .from) (s .control .begun) r
   swaps-rule r q R = owed-le (flagUp v arena) (v .from) (s .control .begun) (r .swaps) (r .phase) (by-phase (R .phase))
     where
-      flag : flagUp v arena ≡ true → Flag v (header arena (v .from))
-      flag e = says-flag v arena .holds e
-
       by-phase : {p : Phase} → PhaseOK X dir v (g .kind) (header arena (v .from)) (s .control .begun) r q p
           → Owing (flagUp v arena) (v .from) (s .control .begun) (r .swaps) p
       by-phase (rests _) =
-          record { most = R .le; flagged = λ e. R .lt (flag e); elsewhere = λ _ w. clash false w refl; waiting = λ _ w. clash false w refl }
+          record { most = R .le; flagged = λ e. R .lt (says-flag v arena .holds e); elsewhere = λ _ w. clash false w refl; waiting = λ _ w. clash false w refl }
       by-phase (ready _) =
-          record { most = R .le; flagged = λ e. R .lt (flag e); elsewhere = λ _ w. clash false w refl; waiting = λ _ w. clash false w refl }
+          record { most = R .le; flagged = λ e. R .lt (says-flag v arena .holds e); elsewhere = λ _ w. clash false w refl; waiting = λ _ w. clash false w refl }
       by-phase (waits {c} W) =
           record {
             most = R .le;
-            flagged = λ e. R .lt (flag e);
-            elsewhere = λ e w. omega (arith, W .elsewhere (flag e) (says-not (says-eq c (v .from)) .holds w));
+            flagged = λ e. R .lt (says-flag v arena .holds e);
+            elsewhere = λ e w. omega (arith, W .elsewhere (says-flag v arena .holds e) (says-not (says-eq c (v .from)) .holds w));
             waiting = λ _ _. W .owes;
           }
 

@@ -378,9 +378,12 @@ says-swaps flag from begun r =
     (says-and (says-when (says-is flag) (says-and (says-lt _ _) (says-when (says-is (waitsElsewhere from (r .phase))) (says-lt _ _))))
     (says-when (says-isnt flag) (says-when (says-is (waits (r .phase))) (says-lt _ _)))))
 
--- the moved record's header is flagged
+-- the moved record's header, h, is flagged
+abbrev pub Flag : Move → ℕ → Type 0
+Flag v h = Early v × (h ≡ flagged (v .from))
+
 abbrev pub FlagUp : Move → List ℕ → Type 0
-FlagUp v arena = Early v × (header arena (v .from) ≡ flagged (v .from))
+FlagUp v arena = Flag v (header arena (v .from))
 
 pub says-flag : (v : Move) (arena : List ℕ) → Says (flagUp v arena) (FlagUp v arena)
 unfolding flagUp
