@@ -20,13 +20,14 @@ use Rattle.model.proofs.ByKind.{by-kind}
 use Rattle.model.proofs.CellMap.{FreeRun, run-map, lowest-free}
 use Rattle.model.proofs.Counts.{rise-is}
 use Rattle.model.proofs.Readings.{HeaderRight, own-header, flag-header}
+use Rattle.model.proofs.Says.{says-holds, one-no}
 use Rattle.demands.specs.Log.{Client, Account}
 use Rattle.demands.proofs.Stages.{Idle, idle-of, idle-early, idle-late}
 use Rattle.demands.proofs.Owners.{other, repaint, repaint-cases, repaint-in, owns-keep, mapped-run, run-unowned}
 use Rattle.demands.proofs.Inv.{HoldOK, empty, here, was, RowOK, Sides, early, late, SidesOK, Block, in-entry, in-other, Core, Inv}
 use Rattle.demands.proofs.Blocks.{meter-lt, entry-range, held-kind}
 use Rattle.demands.proofs.Entries.{stored-entry}
-use Rattle.demands.proofs.RowLaws.{one-not, carry-phase, marked, cleared-passed, cleared-get}
+use Rattle.demands.proofs.RowLaws.{carry-phase, marked, cleared-passed, cleared-get}
 use Rattle.demands.proofs.Keeping.{Keeps, keeps}
 
 -- the move of meter a, at c, to target d
@@ -123,7 +124,7 @@ module _ {X : Type 0} (s : State) (g : Account) (t : Step) (I : Inv X s g) where
         core = begun-core (I .core) quiet (t .a) d present run;
         eight = length-map (s .table) cleared ∙ I .eight;
         rows = λ i. rw (cleared-get (s .table) i) (begun-row (I .core) quiet (t .a) d present run (sym up) (I .rows i));
-        r7 = omega (arith, I .r7, one-not (isEarly (s .control .mv)) (idle-early (s .control .mv) quiet));
+        r7 = omega (arith, I .r7, one-no (says-holds (isEarly (s .control .mv))) (idle-early (s .control .mv) quiet));
         small = omega (arith, I .small);
       }
 

@@ -12,23 +12,33 @@ use Rattle.model.specs.State.{Stage, idle, firstBarrier, copying, secondBarrier
 use Rattle.model.specs.Rules as rules
 use Rattle.model.proofs.ByKind.{Real, by-kind}
 use Rattle.demands.proofs.Stages.{first, First, not-both}
-use Rattle.model.proofs.Readings.{present-lt, FlagUp, HeaderRight, own-header, flag-header, Early}
+use Rattle.model.proofs.Readings.{present-lt, FlagUp, HeaderRight, own-header, flag-header, Early, NumbersAt}
 use Rattle.demands.proofs.Owners.{other, Mapped}
-use Rattle.demands.proofs.Inv.{HoldOK, empty, here, was, EntryOK, Sides, early, late, Count, Block, Core}
+use Rattle.demands.proofs.Inv.{HoldOK, empty, here, was, EntryOK, Sides, early, late, Block, Core}
 
-pub copied-le : (g : Stage) (z n : ℕ) → T (rules.early g) → Count g z n → n ≤ z
-copied-le idle z n l k = absurd l
-copied-le firstBarrier z n l k = omega arith
-copied-le copying z n l k = omega arith
-copied-le secondBarrier z n l k = omega arith
-copied-le thirdBarrier z n l k = absurd l
+-- R5 of a move v at stage g whose record has z words
+pub copied-le : (g : Stage) (v : Move) (z : ℕ) → T (rules.early g) → NumbersAt g v z → v .copied ≤ z
+copied-le idle v z l k = absurd l
+copied-le firstBarrier v z l k = omega arith
+copied-le copying v z l k = omega arith
+copied-le secondBarrier v z l k = omega arith
+copied-le thirdBarrier v z l k = absurd l
 
-first-none : (g : Stage) (z n : ℕ) → T (first g) → Count g z n → n ≡ 0
-first-none idle z n l k = absurd l
-first-none firstBarrier z n l k = k
-first-none copying z n l k = absurd l
-first-none secondBarrier z n l k = absurd l
-first-none thirdBarrier z n l k = absurd l
+first-none : (g : Stage) (v : Move) (z : ℕ) → T (first g) → NumbersAt g v z → v .copied ≡ 0
+first-none idle v z l k = absurd l
+first-none firstBarrier v z l k = k
+first-none copying v z l k = absurd l
+first-none secondBarrier v z l k = absurd l
+first-none thirdBarrier v z l k = absurd l
+
+-- the words of a record matter only while a move is in hand
+pub numbers-same : (g : Stage) (v : Move) (z z′ : ℕ) → (T (rules.early g) → z ≡ z′) → (T (rules.late g) → z ≡ z′) → NumbersAt g v z
+    → NumbersAt g v z′
+numbers-same idle v z z′ e f k = k
+numbers-same firstBarrier v z z′ e f k = k
+numbers-same copying v z z′ e f k = omega (arith, e tt)
+numbers-same secondBarrier v z z′ e f k = k ∙ e tt
+numbers-same thirdBarrier v z z′ e f k = k ∙ f tt
 
 -- with no move in hand only the records and the map say something
 pub still : {X : Type 0} {dir map arena : List ℕ} {val : ℕ → ℕ → ℕ} {kind own : ℕ → ℕ} → length dir ≡ 256 → length arena ≡ 8192 → IsMap map
@@ -43,7 +53,7 @@ still d a m entries mapped owned = record {
   owned = owned;
   idle = λ _. refl;
   sides = λ b. absurd (no-sides b);
-  count = tt;
+  count = record { meter = refl; from = refl; target = refl; copied = refl };
   old-head = λ l. absurd l;
   old-label = λ l. absurd l;
   replica-head = λ l. absurd l;
@@ -102,10 +112,10 @@ module _ {X : Type 0} {dir map : List ℕ} {v : Move} {arena : List ℕ} {val : 
   pub copied-fit : Early v → v .copied ≤ 8 * cells (kind (v .meter))
   copied-fit l =
       let z = home-real (early l) in
-      omega (arith, copied-le (stageOf (v .stage)) (words (kind (v .meter))) (v .copied) l (C .count))
+      omega (arith, copied-le (stageOf (v .stage)) v (words (kind (v .meter))) l (C .count))
 
   pub first-uncopied : First v → v .copied ≡ 0
-  first-uncopied l = first-none (stageOf (v .stage)) (words (kind (v .meter))) (v .copied) l (C .count)
+  first-uncopied l = first-none (stageOf (v .stage)) v (words (kind (v .meter))) l (C .count)
 
   -- the kind in the label of the moved record, at its old cell
   pub from-kind : {c d : ℕ} → Sides v c d → kindOf (label arena (v .from)) ≡ kind (v .meter)

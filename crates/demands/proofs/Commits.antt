@@ -18,6 +18,7 @@ use Rattle.model.specs.Rules.{isEarly}
 use Rattle.model.proofs.Choice.{same-or-not}
 use Rattle.model.proofs.Counts.{rise-is}
 use Rattle.model.proofs.Readings.{HeaderRight, own-header, flag-header, Early}
+use Rattle.model.proofs.Says.{says-holds, one-yes}
 use Rattle.demands.specs.Log.{Client, Account}
 use Rattle.demands.proofs.Stages.{First, not-both}
 use Rattle.demands.proofs.Lists.{set-cases}
@@ -26,7 +27,7 @@ use Rattle.demands.proofs.Inv.{HoldOK, empty, here, was, Place, at-entr
 use Rattle.demands.proofs.Inv.{Block, in-entry, in-other, Core, Inv}
 use Rattle.demands.proofs.Blocks.{meter-lt, home-lt, home-entry, home-real, side-lt}
 use Rattle.demands.proofs.Entries.{stored-head, stored-else, stored-entry}
-use Rattle.demands.proofs.RowLaws.{one-early, carry-phase, marked, cleared-passed, cleared-get}
+use Rattle.demands.proofs.RowLaws.{carry-phase, marked, cleared-passed, cleared-get}
 use Rattle.demands.proofs.Copying.{restaged, count-at}
 
 module _ {X : Type 0} {dir map : List ℕ} {v : Move} {arena : List ℕ} {val : ℕ → ℕ → ℕ} {kind own : ℕ → ℕ}
@@ -190,7 +191,7 @@ commit-inv {X} s g I e flag =
     let all : v .copied ≡ 8 * cells (g .kind (v .meter)) = omega (arith, count-at s g I secondBarrier e) in
     let beyond : First v → ⊥ = λ y. rw e at y in
     let r7 = I .r7 in
-    let now = one-early (isEarly v) l in
+    let now = one-yes (says-holds (isEarly v)) l in
     let up : rise (s .control .committed) ≡ suc (s .control .committed) = rise-is (s .control .committed) (s .control .begun)
     (omega arith) (I .small) in
     record {

@@ -7,7 +7,7 @@ use Prim.Native.Nat.{ℕ, suc, pred, _+_, _*_, _≤_, _<_}
 use native.Mathlib.Omega.{arith}
 use lib.Dec.{T, eqb, ltb}
 use lib.ListN.{set}
-use borrow.Author.Tests.{eqb-true, eqb-false, ltb-true, ltb-false, not-false}
+use borrow.Author.Tests.{eqb-false, ltb-true}
 use Rattle.model.specs.declared.Access.{Access}
 use Rattle.model.specs.declared.Access.the-variants.{Read, Write}
 use Rattle.model.specs.declared.Answer.{Answer}
@@ -30,21 +30,20 @@ use Rattle.model.specs.Refusals.{Refusal, refuse}
 use Rattle.model.specs.Steps.{Step, Name, ADMIT, RETIRE, BEGIN, ADVANCE, ATTACH, DETACH, OPEN, DROP, READ, WRITE, GO, REST, UNKNOWN, NOBODY}
 use Rattle.model.specs.Steps.{nameOf, ownRow, refusals, seated, effect, refused, act}
 use Rattle.model.proofs.Choice.{by-test, clash}
-use Rattle.model.proofs.ByKind.{by-kind}
 use Rattle.model.proofs.Parties.{ofKeeper, ofClient, keeper-who, client-who}
-use Rattle.model.proofs.CellMap.{lowest-free}
 use Rattle.model.proofs.Counts.{rise-is}
 use Rattle.model.proofs.Refusals.{Passed, numbers, each, by-refusals}
 use Rattle.model.proofs.Readings.{Early}
+use Rattle.model.proofs.Says.{says-holds, one-yes}
 use Rattle.demands.specs.Log.{accessTo, Account, clientOf}
 use Rattle.demands.proofs.Stages.{Idle, idle-of}
 use Rattle.demands.proofs.Inv.{rests, ready, waits, Inv, early}
 use Rattle.demands.proofs.Blocks.{entry-range, home-real}
-use Rattle.demands.proofs.RowLaws.{oldHeader, PhaseIn, ReadyIn, one-early, phase-rests, row-in}
+use Rattle.demands.proofs.RowLaws.{oldHeader, PhaseIn, ReadyIn, phase-rests, row-in}
 use Rattle.demands.proofs.Entries.{stored-head}
 use Rattle.demands.proofs.Finishes.{home-head, spot-of, read-right}
 use Rattle.demands.proofs.Copying.{count-at, from-word}
-use Rattle.demands.proofs.Admits.{side-word}
+use Rattle.demands.proofs.Admits.{side-word, admission}
 
 -- a client's row r before its step, the answer x, and the row r′ then; `Right` is what is said of the answer that ends an access
 pub data Turn (Right : Answer → Type 0) (r : Row) (x : Answer) (r′ : Row) : Type 0 where
@@ -118,7 +117,7 @@ module _ {X : Type 0} (s : State) (g : Account) (t : Step) (I : Inv X s g) where
     unfolding settle
     settled e =
         let r7 = I .r7 in
-        let now = one-early (isEarly v) (rw e tt) in
+        let now = one-yes (says-holds (isEarly v)) (rw e tt) in
         by-test D (eqb (header (s .arena) (v .from)) (flagged (v .from)))
         (λ _. keeps k (omega arith) (omega arith) cleared
         (commits e (rise-is (s .control .committed) (s .control .begun) (omega arith) (I .small))))
@@ -148,13 +147,10 @@ module _ {X : Type 0} (s : State) (g : Account) (t : Step) (I : Inv X s g) where
     admitting : Passed (refusals ADMIT s t) → D (effect ADMIT s t)
     admitting p =
         let c : ℕ = lowestRun (s .control .map) (cells (t .b)) in
-        let small = ltb-false 3 (t .b) (p .1 .0) in
-        let hk : t .b < 4 = omega arith in
-        let run = lowest-free (s .control .map) (cells (t .b)) (by-kind (t .b) hk .some) (eqb-false c none (p .1 .1 .1 .0)) in
-        let absent = eqb-true (entry (s .control .dir) (t .a)) none (not-false (eqb (entry (s .control .dir) (t .a)) none) (p .1 .1 .0)) in
+        let A = admission s t p in
         keeps {x = Admitted c} k (omega arith) (omega arith) same (admits (t .a) (t .b) c
         (λ l. let z = home-real (I .core) (early l) in
-        side-word (I .core) (t .a) (t .b) c (ltb-false 255 (t .a) (p .0)) hk absent run (early l) 0 (omega arith) .0))
+        side-word (I .core) (t .a) (t .b) c (A .meter) (A .kind) (A .absent) (A .run) (early l) 0 (omega arith) .0))
 
     beginning : Passed (refusals BEGIN s t) → D (effect BEGIN s t)
     beginning p =

@@ -20,13 +20,14 @@ use Rattle.model.proofs.Choice.{by-test}
 use Rattle.model.proofs.CellMap.{run-map}
 use Rattle.model.proofs.Counts.{rise-is}
 use Rattle.model.proofs.Readings.{FlagUp, HeaderRight, own-header, flag-header, Early, Late}
+use Rattle.model.proofs.Says.{says-holds, one-yes, one-no}
 use Rattle.demands.specs.Log.{Client, Account}
 use Rattle.demands.proofs.Stages.{not-both}
 use Rattle.demands.proofs.Owners.{repaint, repaint-cases, owns-keep, mapped-run}
 use Rattle.demands.proofs.Inv.{HoldOK, empty, here, was, RowOK, Sides, early, late, Block, in-entry, in-other, Core, Inv}
 use Rattle.demands.proofs.Blocks.{still, meter-lt, from-kind}
 use Rattle.demands.proofs.Entries.{carry-entry}
-use Rattle.demands.proofs.RowLaws.{one-early, one-not, carry-phase, passed-get}
+use Rattle.demands.proofs.RowLaws.{carry-phase, passed-get}
 use Rattle.demands.proofs.Keeping.{Good, Keeps, keeps}
 use Rattle.demands.proofs.Copying.{first-inv, copy-inv}
 use Rattle.demands.proofs.Commits.{commit-inv}
@@ -94,7 +95,7 @@ module _ {X : Type 0} (s : State) (g : Account) (I : Inv X s g) where
   call-off-inv e down =
       let l : Early v = rw e tt in
       let r7 = I .r7 in
-      let now = one-early (isEarly v) l in
+      let now = one-yes (says-holds (isEarly v)) l in
       let up : rise (s .control .aborted) ≡ suc (s .control .aborted) = rise-is (s .control .aborted) (s .control .begun) (omega arith)
       (I .small) in
       rw (from-kind (I .core) (early l)) (record {
@@ -114,7 +115,7 @@ module _ {X : Type 0} (s : State) (g : Account) (I : Inv X s g) where
         core = ended-core (I .core) (λ f. not-both v (f .0) l) (late l);
         eight = I .eight;
         rows = λ i. ended-row (λ _. passed-get (s .table) p i) (I .rows i);
-        r7 = omega (arith, I .r7, one-not (isEarly v) (λ y. not-both v y l));
+        r7 = omega (arith, I .r7, one-no (says-holds (isEarly v)) (λ y. not-both v y l));
         small = I .small;
       })
 

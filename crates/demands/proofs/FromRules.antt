@@ -17,7 +17,7 @@ use Rattle.model.specs.Arena.{cells, words, none, header, flagged, targetOf, la
 use Rattle.model.specs.Rows.{holdOf, hold, freshRow, FourHolds}
 use Rattle.model.specs.State.{Stage, idle, firstBarrier, copying, secondBarrier, thirdBarrier, stageOf, inHand, noMove, entry, State, Sizes}
 use Rattle.model.specs.Choice.{every}
-use Rattle.model.specs.Rules.{isEarly, early as early-stage, late as late-stage, covers, flagUp}
+use Rattle.model.specs.Rules.{isEarly, covers, flagUp}
 use Rattle.model.proofs.Choice.{same-or-not}
 use Rattle.model.proofs.ByKind.{by-kind}
 use Rattle.model.proofs.Says.{says-eq, says-holds, says-not, says-when, says-every, all-get, one-yes}
@@ -28,8 +28,8 @@ use Rattle.model.proofs.Fresh.{fresh-row, fresh-swaps}
 use Rattle.demands.specs.Log.{Pending, noAccess, accessTo, Client, Account}
 use Rattle.demands.proofs.Owners.{other, Owns}
 use Rattle.demands.proofs.Inv.{HoldOK, empty, here, was, Place, at-entry, at-hold, Asked, PhaseOK, rests, ready, waits, RowOK, Sides}
-use Rattle.demands.proofs.Inv.{early, late, SidesOK, Block, in-entry, in-other, Count, Core, Inv}
-use Rattle.demands.proofs.Blocks.{Cell, unflagged, flagged-cell, held-kind, cell}
+use Rattle.demands.proofs.Inv.{early, late, SidesOK, Block, in-entry, in-other, Core, Inv}
+use Rattle.demands.proofs.Blocks.{Cell, unflagged, flagged-cell, held-kind, cell, numbers-same}
 use Rattle.demands.proofs.Cover.{owner, Owner, beyond, nobody, the-other, a-record, owner-is, owner-record, owner-other}
 use Rattle.demands.proofs.Cover.{owner-mapped}
 
@@ -70,15 +70,6 @@ no-move v n thirdBarrier i r e = absurd i
 idle-zero : (n : ℕ) → n < 5 → T (not (inHand (stageOf n))) → n ≡ 0
 unfolding every
 idle-zero = says-every 5 _ _ (λ n. says-when (says-holds (not (inHand (stageOf n)))) (says-eq n 0)) .holds refl
-
--- R5, with the moved record's words read from its entry
-count-of : (v : Move) (z z′ : ℕ) (g : Stage) → (T (early-stage g) → z ≡ z′) → (T (late-stage g) → z ≡ z′) → NumbersAt g v z
-    → Count g z′ (v .copied)
-count-of v z z′ idle a b r = tt
-count-of v z z′ firstBarrier a b r = r
-count-of v z z′ copying a b r = let e = a tt in omega arith
-count-of v z z′ secondBarrier a b r = r ∙ a tt
-count-of v z z′ thirdBarrier a b r = r ∙ b tt
 
 module _ (s : State) (Z : Sizes s) (S : Sound s) where
   abbrev dir : List ℕ
@@ -175,7 +166,7 @@ module _ (s : State) (Z : Sizes s) (S : Sound s) where
         idle = λ i. no-move v (wordsAt arena (v .from)) (stageOf (v .stage)) i (S .r5) (idle-zero (v .stage) (S .r2 .stage) i);
         sides = sides-of;
         count =
-            count-of v (wordsAt arena (v .from)) (words (kindIn s (v .meter))) (stageOf (v .stage)) (λ l. from-words (early l))
+            numbers-same (stageOf (v .stage)) v (wordsAt arena (v .from)) (words (kindIn s (v .meter))) (λ l. from-words (early l))
             (λ l. from-words (late l)) (S .r5);
         old-head = S .r4 .old;
         old-label = λ l. from-label (late l) ∙ label-is (v .meter) (S .r2 .late l .present);

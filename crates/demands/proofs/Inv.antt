@@ -14,9 +14,9 @@ use Rattle.model.specs.declared.Move.{Move}
 use Rattle.model.specs.Choice.{one}
 use Rattle.model.specs.Arena.{cells, words, payload, none, word, header, plain, label, labelOf, IsMap}
 use Rattle.model.specs.Rows.{holdOf, wordOf, hold, freshRow}
-use Rattle.model.specs.State.{Stage, idle, firstBarrier, copying, secondBarrier, thirdBarrier, stageOf, noMove, entry, State}
+use Rattle.model.specs.State.{stageOf, noMove, entry, State}
 use Rattle.model.specs.Rules.{isEarly}
-use Rattle.model.proofs.Readings.{Flag, FlagUp, HeaderRight, Early, Late}
+use Rattle.model.proofs.Readings.{Flag, FlagUp, HeaderRight, Early, Late, NumbersAt}
 use Rattle.demands.specs.Log.{noAccess, accessTo, Client, Account}
 use Rattle.demands.proofs.Stages.{Idle, First}
 use Rattle.demands.proofs.Owners.{other, Owns, Mapped}
@@ -98,14 +98,6 @@ pub data Block (dir : List ℕ) (v : Move) (kind : ℕ → ℕ) (x i : ℕ) : Ty
   in-entry : entry dir i ≢ none → entry dir i ≤ x → x < entry dir i + cells (kind i) → Block dir v kind x i
   in-other : {c d : ℕ} → Sides v c d → i ≡ other → d ≤ x → x < d + cells (kind (v .meter)) → Block dir v kind x i
 
--- R5: n of a record's z words are copied
-abbrev pub Count : Stage → ℕ → ℕ → Type 0
-Count idle z n = Unit {0}
-Count firstBarrier z n = n ≡ 0
-Count copying z n = n < z
-Count secondBarrier z n = n ≡ z
-Count thirdBarrier z n = n ≡ z
-
 -- R1 to R5
 pub record Core (X : Type 0) (dir map : List ℕ) (v : Move) (arena : List ℕ) (val : ℕ → ℕ → ℕ) (kind own : ℕ → ℕ) : Type 0 where
   pub entries256 : length dir ≡ 256
@@ -116,7 +108,7 @@ pub record Core (X : Type 0) (dir map : List ℕ) (v : Move) (arena : List ℕ) 
   pub owned : (x : ℕ) → own x ≢ none → Block dir v kind x (own x)
   pub idle : Idle v → v ≡ noMove
   pub sides : {c d : ℕ} → Sides v c d → SidesOK dir v kind own c d
-  pub count : Count (stageOf (v .stage)) (words (kind (v .meter))) (v .copied)
+  pub count : NumbersAt (stageOf (v .stage)) v (words (kind (v .meter)))
   pub old-head : Late v → header arena (v .from) ≡ plain (v .target)
   pub old-label : Late v → label arena (v .from) ≡ labelOf (v .meter) (kind (v .meter))
   pub replica-head : Early v → 0 < v .copied → header arena (v .target) ≡ plain (v .target)

@@ -5,7 +5,6 @@ use mathlib.Core.Bool.{Bool, true, false, not}
 use mathlib.Core.List.{List}
 use Prim.Native.Nat.{ℕ, pred, _≤_, _<_}
 use native.Mathlib.Omega.{arith}
-use lib.Dec.{T}
 use lib.ListN.{length, getD, set, length-set, List·getD-map}
 use lib.Seq.{getD-set-other}
 use Rattle.model.specs.declared.Access.{Access}
@@ -13,7 +12,6 @@ use Rattle.model.specs.declared.Phase.{Phase}
 use Rattle.model.specs.declared.Phase.the-variants.{Resting, Ready}
 use Rattle.model.specs.declared.Row.{Row}
 use Rattle.model.specs.declared.Move.{Move}
-use Rattle.model.specs.Choice.{one}
 use Rattle.model.specs.Arena.{none, header}
 use Rattle.model.specs.Rows.{holdOf, busy, hold, freshRow, withPassed, cleared, clearMarks, hasPassed, allPassed}
 use Rattle.model.specs.State.{entry, State, withTable, withRow}
@@ -42,14 +40,6 @@ ReadyIn X s g t c x = ReadyOK X (s .control .dir) (s .control .mv) (g .kind) (ol
 
 abbrev pub WaitingIn : State → Account → Step → ℕ → Access → Type 0
 WaitingIn s g t c x = WaitingOK (s .control .mv) (g .kind) (oldHeader s) (s .control .begun) (ownRow s t) (clientOf g t) c x
-
-pub one-early : (b : Bool) → T b → one b ≡ 1
-one-early true t = refl
-one-early false t = absurd t
-
-pub one-not : (b : Bool) → (T b → ⊥) → one b ≡ 0
-one-not true n = absurd (n tt)
-one-not false n = refl
 
 module _ {X : Type 0} {dir : List ℕ} {v : Move} {kind : ℕ → ℕ} {h begun : ℕ} {r : Row} {q : Client} where
   -- a row that is not busy rests, in the log too

@@ -16,7 +16,7 @@ use Rattle.model.specs.Choice.{total}
 use Rattle.model.specs.Arena.{cells, words, none, header, targetOf, label, cellsAt, wordsAt}
 use Rattle.model.specs.Rows.{holdOf, hold, freshRow, FourHolds}
 use Rattle.model.specs.State.{Stage, idle, firstBarrier, copying, secondBarrier, thirdBarrier, stageOf, inHand, noMove, entry, State, Sizes}
-use Rattle.model.specs.Rules.{early as early-stage, late as late-stage, covers, recordCovers, flagUp}
+use Rattle.model.specs.Rules.{covers, recordCovers, flagUp}
 use Rattle.model.proofs.Choice.{by-test, clash, order}
 use Rattle.model.proofs.Says.{says-eq, says-not, at-all}
 use Rattle.model.proofs.Readings.{RecordsRight, MoveRight, CellsRight, HeadersRight, NumbersAt, HoldRight, hold-empty, hold-present}
@@ -26,9 +26,9 @@ use Rattle.model.proofs.Covers.{other-by, blocks-are}
 use Rattle.demands.specs.Log.{Client, Account}
 use Rattle.demands.proofs.Owners.{other}
 use Rattle.demands.proofs.Inv.{HoldOK, empty, here, was, Place, at-entry, at-hold, Asked, PhaseOK, rests, ready, waits, RowOK, Sides}
-use Rattle.demands.proofs.Inv.{early, late, Block, in-entry, in-other, Count, Core, Inv}
+use Rattle.demands.proofs.Inv.{early, late, Block, in-entry, in-other, Core, Inv}
 use Rattle.demands.proofs.Blocks.{Cell, unflagged, flagged-cell, meter-lt, entry-range, home-in, home-entry, from-kind, held-kind}
-use Rattle.demands.proofs.Blocks.{cell}
+use Rattle.demands.proofs.Blocks.{cell, numbers-same}
 
 -- a number that is no stage counts as none in hand
 stage-lt : (v : Move) → (T (not (inHand (stageOf (v .stage)))) → v ≡ noMove) → v .stage < 5
@@ -39,22 +39,6 @@ stage-lt v f =
     none-in-hand h =
         subst⁻¹ (λ (g : Stage). T (not (inHand g)))
         (List·getD-eq-default (idle ∷ firstBarrier ∷ copying ∷ secondBarrier ∷ thirdBarrier ∷ []) idle h) tt
-
--- R5, with the moved record's words read from its old block
-numbers-of : (v : Move) (z z′ : ℕ) (g : Stage) → (T (early-stage g) → z ≡ z′) → (T (late-stage g) → z ≡ z′)
-    → (T (not (inHand g)) → v ≡ noMove) → Count g z′ (v .copied) → NumbersAt g v z
-numbers-of v z z′ idle a b n c =
-    let e = n tt in
-    record {
-      meter = ap (λ (w : Move). w .meter) e;
-      from = ap (λ (w : Move). w .from) e;
-      target = ap (λ (w : Move). w .target) e;
-      copied = ap (λ (w : Move). w .copied) e;
-    }
-numbers-of v z z′ firstBarrier a b n c = c
-numbers-of v z z′ copying a b n c = let e = a tt in omega arith
-numbers-of v z z′ secondBarrier a b n c = c ∙ sym (a tt)
-numbers-of v z z′ thirdBarrier a b n c = c ∙ sym (b tt)
 
 module _ {X : Type 0} (s : State) (g : Account) (I : Inv X s g) where
   abbrev dir : List ℕ
@@ -160,8 +144,8 @@ module _ {X : Type 0} (s : State) (g : Account) (I : Inv X s g) where
 
   rule5 : NumbersAt (stageOf (v .stage)) v (wordsAt arena (v .from))
   rule5 =
-      numbers-of v (wordsAt arena (v .from)) (words (g .kind (v .meter))) (stageOf (v .stage)) (λ l. from-words (early l))
-      (λ l. from-words (late l)) (C .idle) (C .count)
+      numbers-same (stageOf (v .stage)) v (words (g .kind (v .meter))) (wordsAt arena (v .from)) (λ l. sym (from-words (early l)))
+      (λ l. sym (from-words (late l))) (C .count)
 
   -- the rows
   abbrev RowOf : Row → Client → Type 0
