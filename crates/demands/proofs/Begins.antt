@@ -1,4 +1,5 @@
--- BEGIN keeps the invariant: the target is a free run, so nobody's; the flag is up, and no row has passed. Assumes nothing.
+-- BEGIN keeps the invariant: the target is a free run, so nobody's; the flag is up, and of the rows only unattached ones
+-- have passed. Assumes nothing.
 use mathlib.Core.Path.{_≡_, refl, sym, _∙_}
 use mathlib.Core.Logic.{_≢_}
 use mathlib.Core.List.{List}

@@ -1,5 +1,5 @@
--- The commit keeps the invariant: the replica has every word of the record, its owner and the old block's change places, and no row is
--- ready at the old block. Assumes nothing.
+-- The commit keeps the invariant: the replica has every word of the record, its owner and the old block's change places, and, for what
+-- demand 2 adds, no row is ready at the old block. Assumes nothing.
 use mathlib.Core.Path.{_≡_, refl, sym, ap, _∙_}
 use mathlib.Core.Logic.{_≢_, ⊎-elim}
 use mathlib.Core.List.{List}

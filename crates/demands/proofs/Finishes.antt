@@ -24,7 +24,7 @@ use Rattle.model.specs.Steps.{Step, GO, ownRow, seated}
 use Rattle.model.proofs.Choice.{by-test, clash}
 use Rattle.model.proofs.ByKind.{by-kind}
 use Rattle.model.proofs.Readings.{Flag, FlagUp, Early, Late}
-use Rattle.demands.specs.Log.{noAccess, Account, update, clientOf, withPending, told}
+use Rattle.demands.specs.Log.{noAccess, Account, update, clientOf, withPending, saidBy}
 use Rattle.demands.proofs.Stages.{not-both}
 use Rattle.demands.proofs.Lists.{set-both}
 use Rattle.demands.proofs.Owners.{other, Owns}
@@ -159,7 +159,7 @@ module _ {X : Type 0} (s : State) (g : Account) (t : Step) (I : Inv X s g) (seat
   R = row-in I t
 
   abbrev Next : Stepped → Type 0
-  Next o = Inv X (seated s t o .next) (told GO g t (o .answer))
+  Next o = Inv X (seated s t o .next) (saidBy GO g t (o .answer))
 
   module _ (c : ℕ) (x : Access) (W : ReadyIn X s g t c x) where
     pub spot-of : (i : ℕ) × Spot X (s .control .dir) (s .control .mv) (g .kind) (I .own) i (clientOf g t .opened (holdOf x)) c

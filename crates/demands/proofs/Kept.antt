@@ -6,7 +6,7 @@ use Rattle.model.specs.State.{State, Sizes}
 use Rattle.model.specs.Steps.{Step, nameOf, act}
 use Rattle.model.specs.Rules.{firstBroken}
 use Rattle.model.proofs.Readings.{sound-of, sound-test}
-use Rattle.demands.specs.Log.{Account, told, after, log, said}
+use Rattle.demands.specs.Log.{Account, saidBy, after, log, said}
 use Rattle.demands.specs.Promises.{SoundKept}
 use Rattle.demands.proofs.Inv.{Inv}
 use Rattle.demands.proofs.Always.{act-inv, always}
@@ -16,7 +16,7 @@ use Rattle.demands.proofs.ToRules.{sound-of-inv, sizes-of-inv}
 module _ (s : State) (t : Step) (Z : Sizes s) (e : firstBroken s ≡ 0) where
   -- the account read off the state, and one line more
   abbrev account : Account
-  account = told (nameOf t) (accountOf s) t (act s t .answer)
+  account = saidBy (nameOf t) (accountOf s) t (act s t .answer)
 
   kept : Inv ⊥ (act s t .next) account
   kept = act-inv s (accountOf s) t (inv-of s Z (sound-of s e))

@@ -77,9 +77,9 @@ did-told {t = t} (stays _) m = silent t BarrierOpen (omega arith) (omega arith) 
 did-told (keeps _ _ _ _ k) m = kept-told k m
 did-told {t = t} (acts {x = x} _ _ b _ _) m = silent t x (omega arith) (omega arith) m
 
-told : (l : List Step) → MovesTold (after l .control .mv) (log l)
-told [] = record { work = tt; meter = λ z. absurd z }
-told (t ∷ l) = did-told (did-after l t) (told l)
+moves-told : (l : List Step) → MovesTold (after l .control .mv) (log l)
+moves-told [] = record { work = tt; meter = λ z. absurd z }
+moves-told (t ∷ l) = did-told (did-after l t) (moves-told l)
 
 -- the counts of the control record
 counts : (l : List Step)
@@ -135,4 +135,4 @@ module _ {X : Type 0} {s : State} {l : Log} (I : Inv X s (said l)) (m : MovesTol
   did-priced (acts _ _ b _ _) = unpriced _ l (omega arith) (omega arith)
 
 pub move-price : (l : List Step) (t : Step) → MovePrice (line t (act (after l) t .answer)) (log l)
-move-price l t = did-priced (always {X = Unit {0}} l) (told l) (did-after l t)
+move-price l t = did-priced (always {X = Unit {0}} l) (moves-told l) (did-after l t)

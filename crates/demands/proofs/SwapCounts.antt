@@ -78,9 +78,9 @@ did-told {s = s} {t = t} {l = l} e (acts {x = x} {r = r} p q _ _ u) m = record {
   sum = let z = total-set (s .table) (pred (t .who)) r freshRow (omega arith) in omega (arith, turn-swaps u, m .sum);
 }
 
-told : (l : List Step) → SwapsTold (after l .table) (log l)
-told [] = record { slots = λ i. ap swapsOf (getD-fresh 8 i freshRow); sum = refl }
-told (t ∷ l) = did-told (eight-after l) (did-after l t) (told l)
+swaps-told : (l : List Step) → SwapsTold (after l .table) (log l)
+swaps-told [] = record { slots = λ i. ap swapsOf (getD-fresh 8 i freshRow); sum = refl }
+swaps-told (t ∷ l) = did-told (eight-after l) (did-after l t) (swaps-told l)
 
 -- a flag that is gone from a move's header was swapped away
 record Swapped (s : State) : Type 0 where
@@ -119,10 +119,10 @@ swapped-away (t ∷ l) = did-swapped (eight-after l) (did-after l t) (swapped-aw
 
 -- the swaps of a slot, and of all, as the log counts them
 pub swaps-are-answered : (l : List Step) (i : ℕ) → getD (after l .table) i freshRow .swaps ≡ answeredTo (suc i) 33 (log l)
-swaps-are-answered l = told l .slots
+swaps-are-answered l = swaps-told l .slots
 
 pub all-swaps-are-answered : (l : List Step) → total swapsOf (after l .table) ≡ answered 33 (log l)
-all-swaps-are-answered l = told l .sum
+all-swaps-are-answered l = swaps-told l .sum
 
 -- a client swaps at most once for each move begun, all eight at most eight times, and no move is called off without a swap
 pub slot-swaps-at-most-begun : (l : List Step) (i : ℕ) → answeredTo (suc i) 33 (log l) ≤ answered 21 (log l)
@@ -131,7 +131,7 @@ slot-swaps-at-most-begun l i = omega (arith, swaps-are-answered l i, begun-is-an
 pub all-swaps-at-most-begun : (l : List Step) → answered 33 (log l) ≤ 8 * answered 21 (log l)
 all-swaps-at-most-begun l =
     let b = total-le (after l .table) (after l .control .begun) (λ i. always {X = ⊥} l .rows i .le) in
-    omega (arith, rw (eight-after l) at b, told l .sum, begun-is-answered l)
+    omega (arith, rw (eight-after l) at b, swaps-told l .sum, begun-is-answered l)
 
 pub called-off-at-most-swaps : (l : List Step) → answered 26 (log l) ≤ answered 33 (log l)
-called-off-at-most-swaps l = omega (arith, swapped-away l .off, told l .sum, aborted-is-answered l)
+called-off-at-most-swaps l = omega (arith, swapped-away l .off, swaps-told l .sum, aborted-is-answered l)

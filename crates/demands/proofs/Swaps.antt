@@ -20,7 +20,7 @@ use Rattle.model.specs.Steps.{Step, GO, ownRow, seated}
 use Rattle.model.proofs.Choice.{by-test, clash}
 use Rattle.model.proofs.Counts.{rise-is}
 use Rattle.model.proofs.Readings.{Flag, FlagUp, own-header, Early}
-use Rattle.demands.specs.Log.{Account, clientOf, told}
+use Rattle.demands.specs.Log.{Account, clientOf, saidBy}
 use Rattle.demands.proofs.Stages.{not-both}
 use Rattle.demands.proofs.Lists.{set-cases}
 use Rattle.demands.proofs.Owners.{other}
@@ -35,8 +35,8 @@ module _ {X : Type 0} {dir map : List ℕ} {v : Move} {arena : List ℕ} {val : 
   pub no-flag : FlagUp v (set arena (place (v .from) 0) (plain (v .from))) → ⊥
   no-flag f = let S = C .sides (early l) in omega (arith, f .1, stored-head C (v .meter) (v .from) (S .home) (S .inside) (plain (v .from)))
 
-  pub called-off : Core X dir map v (set arena (place (v .from) 0) (plain (v .from))) val kind own
-  called-off =
+  pub unflagged-core : Core X dir map v (set arena (place (v .from) 0) (plain (v .from))) val kind own
+  unflagged-core =
       let S = C .sides (early l) in
       let z = home-real C (early l) in
       let same : (j : ℕ) → j < 8 * cells (kind (v .meter))
@@ -84,7 +84,7 @@ module _ {X : Type 0} (s : State) (g : Account) (t : Step) (I : Inv X s g) (seat
       }
 
   abbrev Next : Stepped → Type 0
-  Next o = Inv X (seated s t o .next) (told GO g t (o .answer))
+  Next o = Inv X (seated s t o .next) (saidBy GO g t (o .answer))
 
   by-cell : Cell (s .control .dir) (s .control .mv) (s .arena) c (clientOf g t .opened (holdOf x)) → Next (swap (s .arena) (ownRow s t) c x)
   unfolding swap
@@ -98,7 +98,7 @@ module _ {X : Type 0} (s : State) (g : Account) (t : Step) (I : Inv X s g) (seat
       by-test Next (eqb (header (s .arena) c) (flagged c))
       (λ _. rw o (record {
         own = I .own;
-        core = called-off (I .core) l;
+        core = unflagged-core (I .core) l;
         eight = length-set (s .table) (pred (t .who)) _ ∙ I .eight;
         r7 = I .r7;
         small = I .small;
