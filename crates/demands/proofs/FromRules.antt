@@ -23,7 +23,7 @@ use Rattle.model.proofs.ByKind.{by-kind}
 use Rattle.model.proofs.Says.{says-eq, says-holds, says-not, says-when, says-every, all-get, one-yes}
 use Rattle.model.proofs.Readings.{present-lt, Sound, NumbersAt, HoldRight, hold-empty, hold-present, hold-old, AccessRight, PhaseRight}
 use Rattle.model.proofs.Readings.{RowRight, SwapsAt, Owing, owed-words, waiting-owes, says-flag}
-use Rattle.model.proofs.Covers.{record-in, record-is, covers-in, covers-is, otherOver, other-early, other-late, other-by}
+use Rattle.model.proofs.Covers.{covers-in, covers-is, otherOver, other-early, other-late, other-by}
 use Rattle.model.proofs.Fresh.{fresh-row, fresh-swaps}
 use Rattle.demands.specs.Log.{Pending, noAccess, accessTo, Client, Account}
 use Rattle.demands.proofs.Owners.{other, Owns}
@@ -82,7 +82,7 @@ module _ (s : State) (Z : Sizes s) (S : Sound s) where
   arena = s .arena
 
   abbrev own : ℕ → ℕ
-  own = owner dir v arena
+  own = owner dir (s .control .map) v arena (S .r3) (Z .entries)
 
   meter-lt : (m : ℕ) → entry dir m ≢ none → m < 256
   meter-lt = present-lt dir (Z .entries)
@@ -111,13 +111,13 @@ module _ (s : State) (Z : Sizes s) (S : Sound s) where
   own-entry : (m : ℕ) → entry dir m ≢ none → Owns own m (entry dir m) (cells (kindIn s m))
   own-entry m n x p q =
       let h = meter-lt m n in
-      owner-record dir v arena (s .control .map) (S .r3) (Z .entries) x m (omega (arith, S .r1 m h n .within)) (omega (arith, Z .entries))
-      (record-in arena x (entry dir m) (record { present = n; low = p; high = q }))
+      owner-record dir (s .control .map) v arena (S .r3) (Z .entries) x m (omega (arith, S .r1 m h n .within)) (omega (arith, Z .entries))
+      (record { present = n; low = p; high = q })
 
   own-other : {d : ℕ} → d + cells (kindIn s (v .meter)) ≤ 1024 → ((x : ℕ) → otherOver v arena x ≡ covers d (cells (kindIn s (v .meter))) x)
       → Owns own other d (cells (kindIn s (v .meter)))
   own-other {d} h e x p q =
-      owner-other dir v arena (s .control .map) (S .r3) (Z .entries) x (omega arith) (e x ∙ covers-in d (cells (kindIn s (v .meter))) x p q)
+      owner-other dir (s .control .map) v arena (S .r3) (Z .entries) x (omega arith) (e x ∙ covers-in d (cells (kindIn s (v .meter))) x p q)
 
   side-right : {c d : ℕ} → Sides v c d → entry dir (v .meter) ≢ none → entry dir (v .meter) ≡ c → d + cellsAt arena (v .from) ≤ 1024
       → ((x : ℕ) → otherOver v arena x ≡ covers d (cellsAt arena (v .from)) x) → SidesOK dir v (kindIn s) own c d
@@ -135,10 +135,10 @@ module _ (s : State) (Z : Sizes s) (S : Sound s) where
   sides-of (early l) = let E = S .r2 .early l in side-right (early l) (E .present) (E .old) (E .within) (λ x. other-early v arena x l)
   sides-of (late l) = let L = S .r2 .late l in side-right (late l) (L .present) (L .new) (L .within) (λ x. other-late v arena x l)
 
-  block-of : (x : ℕ) {i : ℕ} → Owner dir v arena x i → i ≢ none → Block dir v (kindIn s) x i
+  block-of : (x : ℕ) {i : ℕ} → Owner dir (s .control .map) v arena x i → i ≢ none → Block dir v (kindIn s) x i
   block-of x (beyond p) n = absurd (n refl)
   block-of x (nobody h p) n = absurd (n refl)
-  block-of x {i} (a-record h p q) n = let o = record-is arena x (entry dir i) q in in-entry (o .present) (o .low) (o .high)
+  block-of x (a-record h p o) n = in-entry (o .present) (o .low) (o .high)
   block-of x (the-other h p) n =
       other-by v arena x (λ (n : ℕ). n ≡ 1 → Block dir v (kindIn s) x other) (λ l. side (early l)) (λ l. side (late l))
       (λ _ _ e. absurd (omega arith)) p
@@ -161,8 +161,8 @@ module _ (s : State) (Z : Sizes s) (S : Sound s) where
               head = S .r4 .entries m (meter-lt m n) n;
               vals = λ x. absurd x;
             };
-        mapped = owner-mapped dir v arena (s .control .map) (S .r3) (Z .entries);
-        owned = λ x. block-of x (owner-is dir v arena x);
+        mapped = owner-mapped dir (s .control .map) v arena (S .r3) (Z .entries);
+        owned = λ x. block-of x (owner-is dir (s .control .map) v arena (S .r3) (Z .entries) x);
         idle = λ i. no-move v (wordsAt arena (v .from)) (stageOf (v .stage)) i (S .r5) (idle-zero (v .stage) (S .r2 .stage) i);
         sides = sides-of;
         count =

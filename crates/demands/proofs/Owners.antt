@@ -23,6 +23,9 @@ Owns own i c n = (x : ℕ) → c ≤ x → x < c + n → own x ≡ i
 abbrev pub bitOf : ℕ → ℕ
 bitOf i = pick (eqb i none) 0 1
 
+pub owner-bit : (i : ℕ) → i ≢ none → 1 ≡ bitOf i
+owner-bit i n = rw (ne-eqb i none n) refl
+
 abbrev pub Mapped : (ℕ → ℕ) → List ℕ → Type 0
 Mapped own map = (x : ℕ) → x < 1024 → used map x ≡ bitOf (own x)
 
