@@ -165,8 +165,8 @@ module _ {X : Type 0} {dir map : List ℕ} {v : Move} {arena : List ℕ} {val : 
       (λ two. replica-cases (λ i x. i ≡ 1 → x ≡ labelOf (v .meter) (kind (v .meter))) 1 (omega arith)
       (λ z. replica-copies arena v (λ y. omega arith) ∙ ap (word arena (v .from)) z ∙ home-entry C (early l) .label)
       (λ p _. C .replica-label l p) refl)
-      (λ x f j p q. replica-cases (λ i y. 0 < i → y ≡ word arena (v .from) i) j (omega arith) (λ i. replica-copies arena v (λ y. omega arith))
-      (λ b i. C .replica x f j i b) p)
+      (λ x f j p q. replica-cases (λ i y. 0 < i → y ≡ word arena (v .from) i) j (omega arith)
+      (λ i. replica-copies arena v (λ y. omega arith)) (λ b i. C .replica x f j i b) p)
 
 module _ {X : Type 0} (s : State) (g : Account) (I : Inv X s g) where
   abbrev v : Move
@@ -177,7 +177,8 @@ module _ {X : Type 0} (s : State) (g : Account) (I : Inv X s g) where
 
   r7-on : Early (s .control .mv) → (k : ℕ) → T (rules.early (stageOf k))
       → s .control .begun ≡ s .control .committed + s .control .aborted + one (rules.early (stageOf k))
-  r7-on l k on = omega (arith, I .r7, one-yes (says-holds (rules.isEarly (s .control .mv))) l, one-yes (says-holds (rules.early (stageOf k))) on)
+  r7-on l k on =
+      omega (arith, I .r7, one-yes (says-holds (rules.isEarly (s .control .mv))) l, one-yes (says-holds (rules.early (stageOf k))) on)
 
   pub first-inv : stageOf (s .control .mv .stage) ≡ firstBarrier → allPassed (s .table) ≡ true → Inv X (startCopying s .next) g
   first-inv e p =

@@ -42,7 +42,8 @@ one-side (late _) (late _) = refl
 module _ {X : Type 0} {dir map : List ℕ} {v : Move} {arena : List ℕ} {val : ℕ → ℕ → ℕ} {kind own : ℕ → ℕ}
     (C : Core X dir map v arena val kind own)
     (down : FlagUp v arena → ⊥) {c d : ℕ} (b : Sides v c d) where
-  plain-head : {m : ℕ} → HeaderRight v m (entry dir m) (header arena (entry dir m)) → HeaderRight noMove m (entry dir m) (header arena (entry dir m))
+  plain-head : {m : ℕ} → HeaderRight v m (entry dir m) (header arena (entry dir m))
+      → HeaderRight noMove m (entry dir m) (header arena (entry dir m))
   plain-head (own-header p) = own-header p
   plain-head {m} (flag-header l p h) =
       let z : entry dir m ≡ v .from = ap (entry dir) p ∙ C .sides (early l) .home in

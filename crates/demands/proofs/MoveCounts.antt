@@ -108,7 +108,8 @@ unpriced x l a b = record { called-off = λ e. absurd (a e); given-back = λ e. 
 
 module _ {X : Type 0} {s : State} {l : Log} (I : Inv X s (said l)) (m : MovesTold (s .control .mv) l) where
   -- at the second and third barrier as many words are copied as the moved record has
-  moved-words : (b : Stage) → stageOf (s .control .mv .stage) ≡ b → T (inHand b) → words (said l .kind (s .control .mv .meter)) ≡ movedWords l
+  moved-words : (b : Stage) → stageOf (s .control .mv .stage) ≡ b → T (inHand b)
+      → words (said l .kind (s .control .mv .meter)) ≡ movedWords l
   moved-words b e i = ap (λ (k : ℕ). words (said l .kind k)) (meter-at m b e i)
 
   at-second : stageOf (s .control .mv .stage) ≡ secondBarrier → workingSteps l ≡ 2 + movedWords l

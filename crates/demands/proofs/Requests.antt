@@ -11,10 +11,11 @@ use Rattle.model.specs.Arena.{fill}
 use Rattle.model.specs.State.{State, number, value, Outcome, outcome, numberOf01, Answered, fresh}
 use Rattle.model.specs.Refusals.{Refusal, _if_, refuse}
 use Rattle.model.specs.Rules.{firstBroken}
-use Rattle.model.specs.Steps.{Step, nameOf, refusals, effect, refused, act, wrongSize, callRefusals, freshCall, auditCall, fillCall, stepCall}
-use Rattle.model.specs.Steps.{Ran, ran, oneByOne, stepsOf, runCall}
+use Rattle.model.specs.Steps.{Step, nameOf, refusals, effect, refused, act, wrongSize, callRefusals, freshCall, auditCall, fillCall}
+use Rattle.model.specs.Steps.{stepCall, Ran, ran, oneByOne, stepsOf, runCall}
 use Rattle.model.proofs.Choice.{both-hold}
-use Rattle.model.proofs.Refusals.{Passed, numbers, rising, by-refusals, unless-refused, refuse-map, refuse-after, passed-after, lowest-is-given, given-applies}
+use Rattle.model.proofs.Refusals.{Passed, numbers, rising, by-refusals, unless-refused, refuse-map, refuse-after, passed-after}
+use Rattle.model.proofs.Refusals.{lowest-is-given, given-applies}
 use Rattle.model.proofs.Answered.{effect-accepted, lines-tabled, answered, fresh-answered, fill-answered, audit-answered}
 use Rattle.model.proofs.Calls.{ran-done}
 use Rattle.demands.specs.Promises.{stepRefusals, runRefusals, LowestGiven, Request, RunRequest}
@@ -71,5 +72,7 @@ module _ (s : State) where
             unless-refused
             (λ (r : Ran). number (r .answer) < 20 → (value (r .answer) ≡ 0) × ((r .slots ≡ slots) × (r .next ≡ s))) l f o
             (λ n _. (refl, (refl, refl))) (λ _ h. absurd (omega (arith, ap number done)));
-        given = rw (refuse-map (λ (r : Ran). number (r .answer)) l f o) (lowest-given l (number (o .answer)) tt (λ _. omega (arith, ap number done)));
+        given =
+            rw (refuse-map (λ (r : Ran). number (r .answer)) l f o)
+            (lowest-given l (number (o .answer)) tt (λ _. omega (arith, ap number done)));
       }

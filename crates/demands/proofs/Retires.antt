@@ -57,7 +57,8 @@ module _ {X : Type 0} {dir map arena : List ℕ} {val : ℕ → ℕ → ℕ} {ki
 
 retired : {X : Type 0} {dir map : List ℕ} {v : Move} {arena : List ℕ} {val : ℕ → ℕ → ℕ} {kind own : ℕ → ℕ} → v ≡ noMove
     → Core X dir map v arena val kind own → (a : ℕ) → entry dir a ≢ none
-    → Core X (set dir a none) (putRun map (entry dir a) (cells (kind a)) 0) v arena val kind (repaint own (entry dir a) (cells (kind a)) none)
+    → Core X (set dir a none) (putRun map (entry dir a) (cells (kind a)) 0) v arena val kind
+    (repaint own (entry dir a) (cells (kind a)) none)
 retired e C a present = rw e (retired-core (rw e at C) a present)
 
 -- a hold of another cell was opened on another meter

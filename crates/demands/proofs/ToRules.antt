@@ -1,7 +1,7 @@
 -- The invariant gives R1 to R8 back. Assumes nothing.
 use mathlib.Core.Path.{_≡_, refl, sym, ap, _∙_, subst⁻¹}
 use mathlib.Core.Logic.{_≢_, _⊎_, inl, inr, ⊎-elim}
-use mathlib.Core.Bool.{false, not}
+use mathlib.Core.Bool.{false, not, true}
 use mathlib.Core.List.{List, [], _∷_}
 use Prim.Native.Nat.{ℕ, _+_, _≤_, _<_}
 use native.Mathlib.Omega.{arith}
@@ -179,16 +179,19 @@ module _ {X : Type 0} (s : State) (g : Account) (I : Inv X s g) where
   swaps-rule : (r : Row) (q : Client) → RowOf r q → SwapsAt (flagUp v arena) (v .from) (s .control .begun) r
   swaps-rule r q R = owed-le (flagUp v arena) (v .from) (s .control .begun) (r .swaps) (r .phase) (by-phase (R .phase))
     where
+      flag : flagUp v arena ≡ true → r .swaps < s .control .begun
+      flag e = R .lt (says-flag v arena .holds e)
+
       by-phase : {p : Phase} → PhaseOK X dir v (g .kind) (header arena (v .from)) (s .control .begun) r q p
           → Owing (flagUp v arena) (v .from) (s .control .begun) (r .swaps) p
       by-phase (rests _) =
-          record { most = R .le; flagged = λ e. R .lt (says-flag v arena .holds e); elsewhere = λ _ w. clash false w refl; waiting = λ _ w. clash false w refl }
+          record { most = R .le; flagged = flag; elsewhere = λ _ w. clash false w refl; waiting = λ _ w. clash false w refl }
       by-phase (ready _) =
-          record { most = R .le; flagged = λ e. R .lt (says-flag v arena .holds e); elsewhere = λ _ w. clash false w refl; waiting = λ _ w. clash false w refl }
+          record { most = R .le; flagged = flag; elsewhere = λ _ w. clash false w refl; waiting = λ _ w. clash false w refl }
       by-phase (waits {c} W) =
           record {
             most = R .le;
-            flagged = λ e. R .lt (says-flag v arena .holds e);
+            flagged = flag;
             elsewhere = λ e w. omega (arith, W .elsewhere (says-flag v arena .holds e) (says-not (says-eq c (v .from)) .holds w));
             waiting = λ _ _. W .owes;
           }
