@@ -63,7 +63,7 @@ case1 =
     ∷ step 0 4 0 0 0 gives 26 with 0
     ∷ [])
 
--- 2 "word 5 of kind 0 is accepted, word 6 gets 14."
+-- 2 "word 5 of kind 0 is accepted, word 6 gets 14.": word 6 is tried first, since the READ that is accepted leaves the row busy
 abbrev case2 : List Line
 case2 = step 1 14 0 6 0 gives 14 with 0 ∷ step 1 14 0 5 0 gives 31 with 1 ∷ []
 
@@ -144,6 +144,7 @@ same [] (y ∷ ys) = false
 same (x ∷ xs) [] = false
 same (x ∷ xs) (y ∷ ys) = eqb x y and same xs ys
 
+-- the lines are played by `act`: on what is reached from fresh the tests of a step find nothing, demands' `step-after`
 abbrev plays : State → List Line → List ℕ → Bool
 plays s [] totals = same (totalsOf s) totals
 plays s (l ∷ ls) totals =

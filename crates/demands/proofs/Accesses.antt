@@ -1,6 +1,6 @@
 -- Demand 3, accesses: when a client is answered 34 or 35, the answers of its own accepted steps before are 31, or 33 after 32: the access
 -- took two of its steps, or three. Assumes nothing.
-use mathlib.Core.Path.{_≡_, refl, ap, subst⁻¹}
+use mathlib.Core.Path.{_≡_, refl, subst⁻¹}
 use mathlib.Core.List.{List, [], _∷_}
 use Prim.Native.Nat.{ℕ, suc, pred, _≤_}
 use native.Mathlib.Omega.{arith}
@@ -15,14 +15,14 @@ use Rattle.model.specs.declared.Row.{Row}
 use Rattle.model.specs.Rows.{freshRow}
 use Rattle.model.specs.State.{State, number, Outcome}
 use Rattle.model.specs.Steps.{Step, act}
+use Rattle.model.proofs.Choice.{and-no}
 use Rattle.model.proofs.Says.{getD-fresh}
 use Rattle.demands.specs.Promises.{TwoOrThree, two, three}
-use Rattle.demands.specs.Log.{line, Log, after, log, said, ownAnswers}
-use Rattle.demands.proofs.Lists.{set-cases, and-false}
-use Rattle.demands.proofs.RowLaws.{cleared-get}
-use Rattle.demands.proofs.Did.{Turn, handles, readies, waits-on, swaps, ends, SameRows, same, cleared, Did, refuses, stays, keeps}
-use Rattle.demands.proofs.Did.{acts, did}
-use Rattle.demands.proofs.Always.{always}
+use Rattle.demands.specs.Log.{line, Log, after, log, ownAnswers}
+use Rattle.demands.proofs.Lists.{set-cases}
+use Rattle.demands.proofs.Did.{Turn, handles, readies, waits-on, swaps, ends, SameRows, same, Did, refuses, stays, keeps, acts}
+use Rattle.demands.proofs.Did.{same-row, did-ended, did-after}
+use Rattle.demands.proofs.Always.{eight-after}
 
 -- what it has heard in each phase
 data Since : Phase → List ℕ → Type 0 where
@@ -32,10 +32,6 @@ data Since : Phase → List ℕ → Type 0 where
 
 record Phases (k : List Row) (l : Log) : Type 0 where
   pub since : (i : ℕ) → Since (getD k i freshRow .phase) (ownAnswers (suc i) l)
-
-same-phase : {k k′ : List Row} → SameRows k k′ → (i : ℕ) → getD k′ i freshRow .phase ≡ getD k i freshRow .phase
-same-phase same i = refl
-same-phase {k} cleared i = ap (λ (r : Row). r .phase) (cleared-get k i)
 
 -- one turn of a client that has heard a
 swapped : {c d : ℕ} {x : Access} {a : List ℕ} → Since (Waiting c x) a → Since (Ready d x) (33 ∷ a)
@@ -52,21 +48,13 @@ turn-since {a = a} (waits-on e _ p) h = rw (p, e) (waiting a)
 turn-since (swaps e _ q p) h = rw (p, e) (swapped (rw q at h))
 turn-since (ends _ _ _ _ p _) h = rw p resting
 
-turn-ended : {Right : Answer → Type 0} {r r′ : Row} {x : Answer} {a : List ℕ} → Turn Right r x r′ → 34 ≤ number x → Since (r .phase) a
-    → TwoOrThree a
-turn-ended (handles e _ _) b h = absurd (omega arith)
-turn-ended (readies e _ _) b h = absurd (omega arith)
-turn-ended (waits-on e _ _) b h = absurd (omega arith)
-turn-ended (swaps e _ _ _) b h = absurd (omega arith)
-turn-ended (ends _ _ _ q _ _) b h = done (rw q at h)
-
 unheard : {k k′ : List Row} {l : Log} (t : Step) (x : Answer) → SameRows k k′ → t .who ≡ 0 → Phases k l → Phases k′ (line t x ∷ l)
-unheard t x r e h = record { since = λ i. rw (same-phase r i, e, ne-eqb 0 (suc i) (omega arith)) (h .since i) }
+unheard t x r e h = record { since = λ i. rw (same-row r i .phase, e, ne-eqb 0 (suc i) (omega arith)) (h .since i) }
 
 did-since : {Right : Answer → Type 0} {s : State} {t : Step} {o : Outcome} {l : Log} → length (s .table) ≡ 8 → Did Right s t o
     → Phases (s .table) l
     → Phases (o .next .table) (line t (o .answer) ∷ l)
-did-since {t = t} e (refuses {n = n} b) h = record { since = λ i. rw (lt-leb 20 n b, and-false (eqb (t .who) (suc i))) (h .since i) }
+did-since {t = t} e (refuses {n = n} b) h = record { since = λ i. rw (lt-leb 20 n b, and-no (eqb (t .who) (suc i))) (h .since i) }
 did-since {t = t} e (stays z) h = unheard t _ same z h
 did-since {t = t} e (keeps {x = x} z _ _ r _) h = unheard t x r z h
 did-since {s = s} {t = t} {l = l} e (acts {x = x} {r = r} p q b _ u) h = record {
@@ -77,18 +65,12 @@ did-since {s = s} {t = t} {l = l} e (acts {x = x} {r = r} p q b _ u) h = record 
       (λ j n. rw (ne-eqb (t .who) (suc j) (λ z. n (omega arith))) (h .since j));
 }
 
-did-ended : {Right : Answer → Type 0} {s : State} {t : Step} {o : Outcome} {l : Log} → Did Right s t o → 34 ≤ number (o .answer)
-    → Phases (s .table) l → TwoOrThree (ownAnswers (t .who) l)
-did-ended (refuses b) n h = absurd (omega arith)
-did-ended (stays z) n h = absurd (omega arith)
-did-ended (keeps z _ b _ _) n h = absurd (omega arith)
-did-ended {t = t} {l = l} (acts p q _ _ u) n h =
-    let e : t .who ≡ suc (pred (t .who)) = omega arith in
-    subst⁻¹ (λ (w : ℕ). TwoOrThree (ownAnswers w l)) e (turn-ended u n (h .since (pred (t .who))))
-
 phases : (l : List Step) → Phases (after l .table) (log l)
 phases [] = record { since = λ i. rw (getD-fresh 8 i freshRow) resting }
-phases (t ∷ l) = let I = always {X = ⊥} l in did-since (I .eight) (did (after l) (said (log l)) t I) (phases l)
+phases (t ∷ l) = did-since (eight-after l) (did-after l t) (phases l)
 
 pub access-heard : (l : List Step) (t : Step) → 34 ≤ number (act (after l) t .answer) → TwoOrThree (ownAnswers (t .who) (log l))
-access-heard l t n = did-ended (did (after l) (said (log l)) t (always {X = ⊥} l)) n (phases l)
+access-heard l t n =
+    let E = did-ended (did-after l t) n in
+    let e : t .who ≡ suc (pred (t .who)) = omega (arith, E .client) in
+    subst⁻¹ (λ (w : ℕ). TwoOrThree (ownAnswers w (log l))) e (done (rw (E .ready) at (phases l .since (pred (t .who)))))

@@ -4,35 +4,29 @@ use mathlib.Core.Logic.{_≢_}
 use mathlib.Core.List.{List}
 use Prim.Native.Nat.{ℕ, _+_, _*_, _≤_, _<_}
 use native.Mathlib.Omega.{arith}
-use lib.Dec.{T, eqb}
+use lib.Dec.{eqb}
 use lib.ListN.{length, getD, set, length-set}
 use lib.Seq.{getD-set-same, getD-set-other}
 use borrow.Author.Tests.{eqb-true, eqb-false, eq-eqb, ne-eqb, ltb-false, not-false}
 use Rattle.model.specs.declared.Row.{Row}
 use Rattle.model.specs.declared.Move.{Move}
 use Rattle.model.specs.Arena.{cells, words, none, start, word, header, label, newRecord, laid, lowestRun, putRun}
-use Rattle.model.specs.State.{Stage, idle, firstBarrier, copying, secondBarrier, thirdBarrier, stageOf, entry, State}
-use Rattle.model.specs.Rules as rules
-use Rattle.model.specs.Steps.{Step, ADMIT}
+use Rattle.model.specs.State.{stageOf, entry, State}
+use Rattle.model.specs.Steps.{Step, ADMIT, refusals}
 use Rattle.model.proofs.ByKind.{by-kind}
 use Rattle.model.proofs.CellMap.{FreeRun, run-map, lowest-free}
 use Rattle.model.proofs.Records.{length-laid, laid-in, new-length, new-zero}
+use Rattle.model.proofs.Readings.{own-header}
+use Rattle.model.proofs.Refusals.{Passed}
 use Rattle.demands.specs.Log.{Client, Account, update}
 use Rattle.demands.proofs.Lists.{set-cases}
 use Rattle.demands.proofs.Owners.{other, Owns, repaint, repaint-cases, repaint-in, owns-keep, mapped-run, run-unowned}
 use Rattle.demands.proofs.Words.{laid-else}
-use Rattle.demands.proofs.Inv.{RowOK, own-head, EntryOK, Sides, early, late, SidesOK, Block, in-entry, in-other, Count, Core, Inv}
-use Rattle.demands.proofs.Blocks.{meter-lt, home-in, home-lt, home-entry, home-real, copied-fit, held-in}
+use Rattle.demands.proofs.Inv.{RowOK, EntryOK, Sides, early, late, SidesOK, Block, in-entry, in-other, Core, Inv}
+use Rattle.demands.proofs.Blocks.{meter-lt, home-in, home-lt, home-entry, home-real, copied-fit, held-in, numbers-same}
 use Rattle.demands.proofs.Entries.{carry-entry, same-account}
 use Rattle.demands.proofs.RowLaws.{reflag-row, redirected-row}
 use Rattle.demands.proofs.Keeping.{Keeps, keeps}
-
-count-same : (g : Stage) (z z′ n : ℕ) → (T (rules.early g) → z ≡ z′) → (T (rules.late g) → z ≡ z′) → Count g z n → Count g z′ n
-count-same idle z z′ n e f k = tt
-count-same firstBarrier z z′ n e f k = k
-count-same copying z z′ n e f k = omega (arith, e tt)
-count-same secondBarrier z z′ n e f k = k ∙ e tt
-count-same thirdBarrier z z′ n e f k = k ∙ f tt
 
 -- ADMIT of meter a, of kind k, at the free cells from c on
 module _ {X : Type 0} {dir map : List ℕ} {v : Move} {arena : List ℕ} {val : ℕ → ℕ → ℕ} {kind own : ℕ → ℕ}
@@ -85,7 +79,7 @@ module _ {X : Type 0} {dir map : List ℕ} {v : Move} {arena : List ℕ} {val : 
         range = run .within;
         label = new-word 1 (omega arith);
         owns = repaint-in own c (cells k) a;
-        head = own-head (new-word 0 (omega arith));
+        head = own-header (new-word 0 (omega arith));
         vals = λ _ w b. new-word (2 + w) (omega arith) ∙ new-zero c a k w;
       })
 
@@ -134,13 +128,13 @@ module _ {X : Type 0} {dir map : List ℕ} {v : Move} {arena : List ℕ} {val : 
     words8192 = length-laid arena (start c) (newRecord c a k) ∙ C .words8192;
     is-map = run-map map c (cells k) 1 (C .is-map) (omega arith);
     entries = set-cases (λ m d. d ≢ none → EntryOK X v arena′ val′ kind′ own′ m d) dir a c none in-dir (λ _. admitted) stood;
-    mapped = mapped-run own map c (cells k) a 1 (C .is-map) (run .within) (omega arith) (rw (ne-eqb a none (λ e. omega arith)) refl)
+    mapped = mapped-run own map c (cells k) a 1 (C .is-map) (omega arith) (rw (ne-eqb a none (λ e. omega arith)) refl)
         (C .mapped);
     owned = λ x. repaint-cases (λ (i : ℕ). i ≢ none → Block (set dir a c) v kind′ x i) own c (cells k) a x (λ p q _. new-block p q)
         (λ _ i. keep-block (C .owned x i));
     idle = C .idle;
     sides = λ b. keep-sides b;
-    count = count-same (stageOf (v .stage)) (words (kind (v .meter))) (words (kind′ (v .meter))) (v .copied)
+    count = numbers-same (stageOf (v .stage)) v (words (kind (v .meter))) (words (kind′ (v .meter)))
         (λ l. ap words (sym (moved-kind (early l)))) (λ l. ap words (sym (moved-kind (late l)))) (C .count);
     old-head = λ l. let z = home-real C (late l) in side-word (late l) 0 (omega arith) .1 ∙ C .old-head l;
     old-label = λ l. let z = home-real C (late l) in rw (moved-kind (late l)) (side-word (late l) 1 (omega arith) .1 ∙ C .old-label l);
@@ -163,20 +157,35 @@ module _ {X : Type 0} {dir map : List ℕ} {v : Move} {arena : List ℕ} {val : 
       redirected-row a c (λ i n. present-other _ (held-in C (R .holds i) n)) same-kind
       (reflag-row (λ f. let z = home-real C (early (f .0)) in (f .0, sym (side-word (early (f .0)) 0 (omega arith) .0) ∙ f .1)) R)
 
+-- what an ADMIT that is not refused asked for
+pub record Admission (s : State) (t : Step) : Type 0 where
+  pub meter : t .a ≤ 255
+  pub kind : t .b < 4
+  pub absent : entry (s .control .dir) (t .a) ≡ none
+  pub run : FreeRun (s .control .map) (cells (t .b)) (lowestRun (s .control .map) (cells (t .b)))
+
+pub admission : (s : State) (t : Step) → Passed (refusals ADMIT s t) → Admission s t
+admission s t k =
+    let small = ltb-false 3 (t .b) (k .1 .0) in
+    let hk : t .b < 4 = omega arith in
+    record {
+      meter = ltb-false 255 (t .a) (k .0);
+      kind = hk;
+      absent = eqb-true (entry (s .control .dir) (t .a)) none (not-false (eqb (entry (s .control .dir) (t .a)) none) (k .1 .1 .0));
+      run = lowest-free (s .control .map) (cells (t .b)) (by-kind (t .b) hk .some)
+          (eqb-false (lowestRun (s .control .map) (cells (t .b))) none (k .1 .1 .1 .0));
+    }
+
 pub admit-inv : {X : Type 0} (s : State) (g : Account) (t : Step) → Inv X s g → Keeps X ADMIT s g t
 admit-inv {X} s g t I =
     keeps ADMIT s g t I (λ k.
     let c : ℕ = lowestRun (s .control .map) (cells (t .b)) in
-    let ha = ltb-false 255 (t .a) (k .0) in
-    let small = ltb-false 3 (t .b) (k .1 .0) in
-    let hk : t .b < 4 = omega arith in
-    let absent = eqb-true (entry (s .control .dir) (t .a)) none (not-false (eqb (entry (s .control .dir) (t .a)) none) (k .1 .1 .0)) in
-    let run = lowest-free (s .control .map) (cells (t .b)) (by-kind (t .b) hk .some) (eqb-false c none (k .1 .1 .1 .0)) in
+    let A = admission s t k in
     record {
       own = repaint (I .own) c (cells (t .b)) (t .a);
-      core = admitted-core (I .core) (t .a) (t .b) c ha hk absent run;
+      core = admitted-core (I .core) (t .a) (t .b) c (A .meter) (A .kind) (A .absent) (A .run);
       eight = I .eight;
       r7 = I .r7;
       small = I .small;
-      rows = λ i. admitted-row (I .core) (t .a) (t .b) c ha hk absent run (I .rows i);
+      rows = λ i. admitted-row (I .core) (t .a) (t .b) c (A .meter) (A .kind) (A .absent) (A .run) (I .rows i);
     })

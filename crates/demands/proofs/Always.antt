@@ -5,7 +5,7 @@ use mathlib.Core.List.{List, [], _∷_}
 use Prim.Native.Nat.{ℕ, zero, suc, pred, _<_}
 use native.Mathlib.Omega.{arith}
 use lib.Dec.{ltb}
-use lib.ListN.{replicate}
+use lib.ListN.{replicate, length}
 use borrow.Author.Tests.{ltb-true}
 use Rattle.model.specs.Arena.{none, header}
 use Rattle.model.specs.Rows.{freshRow}
@@ -78,3 +78,6 @@ fresh-inv {X} = record {
 pub always : {X : Type 0} (l : List Step) → Inv X (after l) (said (log l))
 always [] = fresh-inv
 always (t ∷ l) = act-inv (after l) (said (log l)) t (always l)
+
+pub eight-after : (l : List Step) → length (after l .table) ≡ 8
+eight-after l = always {X = ⊥} l .eight

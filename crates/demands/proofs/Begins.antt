@@ -1,4 +1,5 @@
--- BEGIN keeps the invariant: the target is a free run, so nobody's; the flag is up, and no row has passed. Assumes nothing.
+-- BEGIN keeps the invariant: the target is a free run, so nobody's; the flag is up, and of the rows only unattached ones
+-- have passed. Assumes nothing.
 use mathlib.Core.Path.{_≡_, refl, sym, _∙_}
 use mathlib.Core.Logic.{_≢_}
 use mathlib.Core.List.{List}
@@ -19,14 +20,15 @@ use Rattle.model.specs.Steps.{Step, BEGIN}
 use Rattle.model.proofs.ByKind.{by-kind}
 use Rattle.model.proofs.CellMap.{FreeRun, run-map, lowest-free}
 use Rattle.model.proofs.Counts.{rise-is}
+use Rattle.model.proofs.Readings.{HeaderRight, own-header, flag-header}
+use Rattle.model.proofs.Says.{says-holds, one-no}
 use Rattle.demands.specs.Log.{Client, Account}
 use Rattle.demands.proofs.Stages.{Idle, idle-of, idle-early, idle-late}
 use Rattle.demands.proofs.Owners.{other, repaint, repaint-cases, repaint-in, owns-keep, mapped-run, run-unowned}
-use Rattle.demands.proofs.Inv.{HoldOK, empty, here, was, RowOK, HeadOK, own-head, flag-head, Sides, early, late, SidesOK, Block}
-use Rattle.demands.proofs.Inv.{in-entry, in-other, Core, Inv}
+use Rattle.demands.proofs.Inv.{HoldOK, empty, here, was, RowOK, Sides, early, late, SidesOK, Block, in-entry, in-other, Core, Inv}
 use Rattle.demands.proofs.Blocks.{meter-lt, entry-range, held-kind}
 use Rattle.demands.proofs.Entries.{stored-entry}
-use Rattle.demands.proofs.RowLaws.{one-not, carry-phase, marked, cleared-passed, cleared-get}
+use Rattle.demands.proofs.RowLaws.{carry-phase, marked, cleared-passed, cleared-get}
 use Rattle.demands.proofs.Keeping.{Keeps, keeps}
 
 -- the move of meter a, at c, to target d
@@ -36,9 +38,9 @@ module _ {X : Type 0} {dir map : List ℕ} {v : Move} {arena : List ℕ} {val : 
   own′ : ℕ → ℕ
   own′ = repaint own d (cells (kind a)) other
 
-  keep-head : {m c h : ℕ} → HeadOK v m c h → HeadOK (firstMove a (entry dir a) d) m c h
-  keep-head (own-head p) = own-head p
-  keep-head (flag-head l _ _) = absurd (idle-early v quiet l)
+  keep-head : {m c h : ℕ} → HeaderRight v m c h → HeaderRight (firstMove a (entry dir a) d) m c h
+  keep-head (own-header p) = own-header p
+  keep-head (flag-header l _ _) = absurd (idle-early v quiet l)
 
   keep-block : {x i : ℕ} → Block dir v kind x i → Block dir (firstMove a (entry dir a) d) kind x i
   keep-block (in-entry p q r) = in-entry p q r
@@ -65,8 +67,8 @@ module _ {X : Type 0} {dir map : List ℕ} {v : Move} {arena : List ℕ} {val : 
     entries = λ m n. stored-entry C a (entry dir a) refl (entry-range C a present) (flagged (entry dir a)) m n
         (owns-keep own d (cells (kind a)) other m (entry dir m) (cells (kind m))
         (λ x p q i. omega (arith, run-unowned own map (cells (kind a)) d (C .mapped) run x p q, meter-lt C m n)) (C .entries m n .owns))
-        (λ _. flag-head tt refl refl) (λ _ k. keep-head k);
-    mapped = mapped-run own map d (cells (kind a)) other 1 (C .is-map) (run .within) (omega arith) refl (C .mapped);
+        (λ _. flag-header tt refl refl) (λ _ k. keep-head k);
+    mapped = mapped-run own map d (cells (kind a)) other 1 (C .is-map) (omega arith) refl (C .mapped);
     owned = λ x. repaint-cases (λ (i : ℕ). i ≢ none → Block dir (firstMove a (entry dir a) d) kind x i) own d (cells (kind a)) other x
         (λ p q _. in-other (early tt) refl p q) (λ _ i. keep-block (C .owned x i));
     idle = λ l. absurd l;
@@ -123,7 +125,7 @@ module _ {X : Type 0} (s : State) (g : Account) (t : Step) (I : Inv X s g) where
         core = begun-core (I .core) quiet (t .a) d present run;
         eight = length-map (s .table) cleared ∙ I .eight;
         rows = λ i. rw (cleared-get (s .table) i) (begun-row (I .core) quiet (t .a) d present run (sym up) (I .rows i));
-        r7 = omega (arith, I .r7, one-not (isEarly (s .control .mv)) (idle-early (s .control .mv) quiet));
+        r7 = omega (arith, I .r7, one-no (says-holds (isEarly (s .control .mv))) (idle-early (s .control .mv) quiet));
         small = omega (arith, I .small);
       }
 

@@ -11,25 +11,34 @@ use Rattle.model.specs.Arena.{cells, words, none, header, plain, flagged, label
 use Rattle.model.specs.State.{Stage, idle, firstBarrier, copying, secondBarrier, thirdBarrier, stageOf, noMove, entry}
 use Rattle.model.specs.Rules as rules
 use Rattle.model.proofs.ByKind.{Real, by-kind}
-use Rattle.demands.proofs.Stages.{first, First, Early, not-both}
-use Rattle.demands.proofs.Lists.{getD-in}
+use Rattle.demands.proofs.Stages.{first, First, not-both}
+use Rattle.model.proofs.Readings.{present-lt, FlagUp, HeaderRight, own-header, flag-header, Early, NumbersAt}
 use Rattle.demands.proofs.Owners.{other, Mapped}
-use Rattle.demands.proofs.Inv.{Flag, HoldOK, empty, here, was, HeadOK, own-head, flag-head, EntryOK, Sides, early, late, Count}
-use Rattle.demands.proofs.Inv.{Block, Core}
+use Rattle.demands.proofs.Inv.{HoldOK, empty, here, was, EntryOK, Sides, early, late, Block, Core}
 
-pub copied-le : (g : Stage) (z n : ℕ) → T (rules.early g) → Count g z n → n ≤ z
-copied-le idle z n l k = absurd l
-copied-le firstBarrier z n l k = omega arith
-copied-le copying z n l k = omega arith
-copied-le secondBarrier z n l k = omega arith
-copied-le thirdBarrier z n l k = absurd l
+-- R5 of a move v at stage g whose record has z words
+pub copied-le : (g : Stage) (v : Move) (z : ℕ) → T (rules.early g) → NumbersAt g v z → v .copied ≤ z
+copied-le idle v z l k = absurd l
+copied-le firstBarrier v z l k = omega arith
+copied-le copying v z l k = omega arith
+copied-le secondBarrier v z l k = omega arith
+copied-le thirdBarrier v z l k = absurd l
 
-first-none : (g : Stage) (z n : ℕ) → T (first g) → Count g z n → n ≡ 0
-first-none idle z n l k = absurd l
-first-none firstBarrier z n l k = k
-first-none copying z n l k = absurd l
-first-none secondBarrier z n l k = absurd l
-first-none thirdBarrier z n l k = absurd l
+first-none : (g : Stage) (v : Move) (z : ℕ) → T (first g) → NumbersAt g v z → v .copied ≡ 0
+first-none idle v z l k = absurd l
+first-none firstBarrier v z l k = k
+first-none copying v z l k = absurd l
+first-none secondBarrier v z l k = absurd l
+first-none thirdBarrier v z l k = absurd l
+
+-- the words of a record matter only while a move is in hand
+pub numbers-same : (g : Stage) (v : Move) (z z′ : ℕ) → (T (rules.early g) → z ≡ z′) → (T (rules.late g) → z ≡ z′) → NumbersAt g v z
+    → NumbersAt g v z′
+numbers-same idle v z z′ e f k = k
+numbers-same firstBarrier v z z′ e f k = k
+numbers-same copying v z z′ e f k = omega (arith, e tt)
+numbers-same secondBarrier v z z′ e f k = k ∙ e tt
+numbers-same thirdBarrier v z z′ e f k = k ∙ f tt
 
 -- with no move in hand only the records and the map say something
 pub still : {X : Type 0} {dir map arena : List ℕ} {val : ℕ → ℕ → ℕ} {kind own : ℕ → ℕ} → length dir ≡ 256 → length arena ≡ 8192 → IsMap map
@@ -44,7 +53,7 @@ still d a m entries mapped owned = record {
   owned = owned;
   idle = λ _. refl;
   sides = λ b. absurd (no-sides b);
-  count = tt;
+  count = record { meter = refl; from = refl; target = refl; copied = refl };
   old-head = λ l. absurd l;
   old-label = λ l. absurd l;
   replica-head = λ l. absurd l;
@@ -59,13 +68,13 @@ still d a m entries mapped owned = record {
 -- a filled hold's cell: its header is plain and names the meter's entry t, or it is the moved record's, flagged
 pub data Cell (dir : List ℕ) (v : Move) (arena : List ℕ) (h m : ℕ) : Type 0 where
   unflagged : (t : ℕ) → header arena h ≡ plain t → entry dir m ≡ t → t < 1024
-      → (Flag v (header arena (v .from)) → (t ≢ v .from) × (h ≢ v .from)) → Cell dir v arena h m
+      → (FlagUp v arena → (t ≢ v .from) × (h ≢ v .from)) → Cell dir v arena h m
   flagged-cell : header arena h ≡ flagged h → entry dir m ≡ h → h < 1024 → Early v → h ≡ v .from → Cell dir v arena h m
 
 module _ {X : Type 0} {dir map : List ℕ} {v : Move} {arena : List ℕ} {val : ℕ → ℕ → ℕ} {kind own : ℕ → ℕ}
     (C : Core X dir map v arena val kind own) where
   pub meter-lt : (m : ℕ) → entry dir m ≢ none → m < 256
-  meter-lt m n = omega (arith, getD-in dir m none n, C .entries256)
+  meter-lt = present-lt dir (C .entries256)
 
   pub entry-range : (m : ℕ) → entry dir m ≢ none → entry dir m < 1024
   entry-range m n = let E = C .entries m n in let z = by-kind (kind m) (E .kinded) in omega (arith, E .range)
@@ -103,10 +112,10 @@ module _ {X : Type 0} {dir map : List ℕ} {v : Move} {arena : List ℕ} {val : 
   pub copied-fit : Early v → v .copied ≤ 8 * cells (kind (v .meter))
   copied-fit l =
       let z = home-real (early l) in
-      omega (arith, copied-le (stageOf (v .stage)) (words (kind (v .meter))) (v .copied) l (C .count))
+      omega (arith, copied-le (stageOf (v .stage)) v (words (kind (v .meter))) l (C .count))
 
   pub first-uncopied : First v → v .copied ≡ 0
-  first-uncopied l = first-none (stageOf (v .stage)) (words (kind (v .meter))) (v .copied) l (C .count)
+  first-uncopied l = first-none (stageOf (v .stage)) v (words (kind (v .meter))) l (C .count)
 
   -- the kind in the label of the moved record, at its old cell
   pub from-kind : {c d : ℕ} → Sides v c d → kindOf (label arena (v .from)) ≡ kind (v .meter)
@@ -133,11 +142,11 @@ module _ {X : Type 0} {dir map : List ℕ} {v : Move} {arena : List ℕ} {val : 
       E : EntryOK X v arena val kind own m h
       E = rw e at (C .entries m (rw e n))
 
-      from : HeadOK v m h (header arena h) → Cell dir v arena h m
-      from (own-head p) =
-          let apart : Flag v (header arena (v .from)) → h ≢ v .from = λ f z. omega (arith, f .1, ap (header arena) z) in
+      from : HeaderRight v m h (header arena h) → Cell dir v arena h m
+      from (own-header p) =
+          let apart : FlagUp v arena → h ≢ v .from = λ f z. omega (arith, f .1, ap (header arena) z) in
           unflagged h p e r (λ f. (apart f, apart f))
-      from (flag-head l p o) = flagged-cell o e r l (sym e ∙ ap (entry dir) p ∙ C .sides (early l) .home)
+      from (flag-header l p o) = flagged-cell o e r l (sym e ∙ ap (entry dir) p ∙ C .sides (early l) .home)
   cell {h} {m} (was l e f) n =
       let S = C .sides (late l) in
       unflagged (v .target) (rw e (C .old-head l)) (rw f (S .home)) (S .inside) (λ k. absurd (not-both v (k .0) l))

@@ -24,8 +24,8 @@ use Rattle.model.specs.Steps.{Step, Name, ATTACH, DETACH, OPEN, DROP, READ, WRI
 use Rattle.model.proofs.Choice.{by-test, clash}
 use Rattle.model.proofs.Refusals.{Passed}
 use Rattle.model.proofs.Says.{getD-fresh}
-use Rattle.demands.specs.Log.{accessTo, Client, Account, newClient, clientOf, withHold, withPending, begins, doneBy, told}
-use Rattle.demands.proofs.Stages.{Late}
+use Rattle.model.proofs.Readings.{Late}
+use Rattle.demands.specs.Log.{accessTo, Client, Account, newClient, clientOf, withHold, withPending, asks, doneBy, saidBy}
 use Rattle.demands.proofs.Lists.{set-cases, set-both}
 use Rattle.demands.proofs.Keeping.{Keeps, keeps}
 use Rattle.demands.proofs.Inv.{HoldOK, empty, here, at-entry, Asked, PhaseOK, rests, ready, waits, late, Core, Inv}
@@ -113,7 +113,7 @@ module _ {X : Type 0} (s : State) (g : Account) (t : Step) (I : Inv X s g) (seat
       }))
 
   -- READ and WRITE
-  module _ (n : Name) (x : Access) (says : doneBy n g t ≡ begins g t x)
+  module _ (n : Name) (x : Access) (says : doneBy n g t ≡ asks g t x)
       (k : Passed (accessRefusals (s .arena) (ownRow s t) (holdOf x) (wordOf x))) where
     abbrev q : Client
     q = withPending (clientOf g t) (accessTo (clientOf g t .opened (holdOf x)) x)
@@ -143,7 +143,7 @@ module _ {X : Type 0} (s : State) (g : Account) (t : Step) (I : Inv X s g) (seat
     }
 
     abbrev Next : Stepped → Type 0
-    Next o = Inv X (seated s t o .next) (told n g t (o .answer))
+    Next o = Inv X (seated s t o .next) (saidBy n g t (o .answer))
 
     by-cell : Cell (s .control .dir) (s .control .mv) (s .arena) (hold (ownRow s t) (holdOf x)) (clientOf g t .opened (holdOf x))
         → Next (loadHeader (s .arena) (ownRow s t) x)

@@ -1,5 +1,5 @@
--- The commit keeps the invariant: the replica has every word of the record, its owner and the old block's change places, and no row is
--- ready at the old block. Assumes nothing.
+-- The commit keeps the invariant: the replica has every word of the record, its owner and the old block's change places, and, for what
+-- demand 2 adds, no row is ready at the old block. Assumes nothing.
 use mathlib.Core.Path.{_≡_, refl, sym, ap, _∙_}
 use mathlib.Core.Logic.{_≢_, ⊎-elim}
 use mathlib.Core.List.{List}
@@ -17,15 +17,17 @@ use Rattle.model.specs.KeeperSteps.{commit}
 use Rattle.model.specs.Rules.{isEarly}
 use Rattle.model.proofs.Choice.{same-or-not}
 use Rattle.model.proofs.Counts.{rise-is}
+use Rattle.model.proofs.Readings.{HeaderRight, own-header, flag-header, Early}
+use Rattle.model.proofs.Says.{says-holds, one-yes}
 use Rattle.demands.specs.Log.{Client, Account}
-use Rattle.demands.proofs.Stages.{First, Early, not-both}
-use Rattle.demands.proofs.Lists.{getD-in, set-cases}
+use Rattle.demands.proofs.Stages.{First, not-both}
+use Rattle.demands.proofs.Lists.{set-cases}
 use Rattle.demands.proofs.Owners.{other, Owns, exchange, exchange-cases, mapped-exchange}
-use Rattle.demands.proofs.Inv.{HoldOK, empty, here, was, Place, at-entry, at-hold, RowOK, HeadOK, own-head, flag-head, EntryOK}
-use Rattle.demands.proofs.Inv.{Sides, early, late, SidesOK, Block, in-entry, in-other, Core, Inv}
-use Rattle.demands.proofs.Blocks.{meter-lt, home-in, home-lt, home-entry, home-real, side-lt}
+use Rattle.demands.proofs.Inv.{HoldOK, empty, here, was, Place, at-entry, at-hold, RowOK, EntryOK, Sides, early, late, SidesOK}
+use Rattle.demands.proofs.Inv.{Block, in-entry, in-other, Core, Inv}
+use Rattle.demands.proofs.Blocks.{meter-lt, home-lt, home-entry, home-real, side-lt}
 use Rattle.demands.proofs.Entries.{stored-head, stored-else, stored-entry}
-use Rattle.demands.proofs.RowLaws.{one-early, carry-phase, marked, cleared-passed, cleared-get}
+use Rattle.demands.proofs.RowLaws.{carry-phase, marked, cleared-passed, cleared-get}
 use Rattle.demands.proofs.Copying.{restaged, count-at}
 
 module _ {X : Type 0} {dir map : List ℕ} {v : Move} {arena : List ℕ} {val : ℕ → ℕ → ℕ} {kind own : ℕ → ℕ}
@@ -50,7 +52,7 @@ module _ {X : Type 0} {dir map : List ℕ} {v : Move} {arena : List ℕ} {val : 
   Y = home-entry C (early l)
 
   in-dir : v .meter < length dir
-  in-dir = getD-in dir (v .meter) none (home-in C (early l))
+  in-dir = omega (arith, home-lt C (early l), C .entries256)
 
   new-entry : entry dir′ (v .meter) ≡ v .target
   new-entry = getD-set-same dir (v .meter) (v .target) none in-dir
@@ -84,7 +86,7 @@ module _ {X : Type 0} {dir map : List ℕ} {v : Move} {arena : List ℕ} {val : 
         range = S .range;
         label = target-word 1 (omega arith) ∙ C .replica-label l (omega arith);
         owns = owns-as other (v .meter) (v .target) (cells (kind (v .meter))) side-owner (S .owns);
-        head = own-head (target-word 0 (omega arith) ∙ C .replica-head l (omega arith));
+        head = own-header (target-word 0 (omega arith) ∙ C .replica-head l (omega arith));
         vals = λ x w b. target-word (2 + w) (omega arith) ∙ C .replica x (l, flag) (2 + w) (omega arith) (omega arith) ∙ Y .vals x w b;
       }
 
@@ -94,9 +96,9 @@ module _ {X : Type 0} {dir map : List ℕ} {v : Move} {arena : List ℕ} {val : 
       (owns-as m m (entry dir m) (cells (kind m)) (other-owner m n (meter-lt C m y)) (C .entries m y .owns)) (λ e. absurd (n e))
       (λ _ k. keep k)
     where
-      keep : {c h : ℕ} → HeadOK v m c h → HeadOK v′ m c h
-      keep (own-head p) = own-head p
-      keep (flag-head _ p _) = absurd (n p)
+      keep : {c h : ℕ} → HeaderRight v m c h → HeaderRight v′ m c h
+      keep (own-header p) = own-header p
+      keep (flag-header _ p _) = absurd (n p)
 
   new-block : {x i : ℕ} → Block dir v kind x i → Block dir′ v′ kind x (exchange (v .meter) other i)
   new-block {x} {i} (in-entry p q r) =
@@ -189,7 +191,7 @@ commit-inv {X} s g I e flag =
     let all : v .copied ≡ 8 * cells (g .kind (v .meter)) = omega (arith, count-at s g I secondBarrier e) in
     let beyond : First v → ⊥ = λ y. rw e at y in
     let r7 = I .r7 in
-    let now = one-early (isEarly v) l in
+    let now = one-yes (says-holds (isEarly v)) l in
     let up : rise (s .control .committed) ≡ suc (s .control .committed) = rise-is (s .control .committed) (s .control .begun)
     (omega arith) (I .small) in
     record {

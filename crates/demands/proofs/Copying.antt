@@ -8,7 +8,7 @@ use Prim.Native.Nat.{ℕ, suc, _+_, _*_, _≤_, _<_}
 use native.Mathlib.Omega.{arith}
 use lib.Dec.{T, eqb}
 use lib.ListN.{length, getD, set, length-set, length-map}
-use borrow.Author.Tests.{eqb-true, eqb-false, eq-eqb, ne-eqb}
+use borrow.Author.Tests.{eqb-true, eqb-false, eq-eqb}
 use Rattle.model.specs.declared.Row.{Row}
 use Rattle.model.specs.declared.Move.{Move}
 use Rattle.model.specs.Choice.{one}
@@ -21,15 +21,17 @@ use Rattle.model.specs.Rules as rules
 use Rattle.model.proofs.Choice.{by-test, same-or-not}
 use Rattle.model.proofs.ByKind.{by-kind}
 use Rattle.model.proofs.Counts.{rise-is}
+use Rattle.model.proofs.Effects.{replica-copies}
+use Rattle.model.proofs.Readings.{Flag, FlagUp, HeaderRight, own-header, flag-header, Early, Late, NumbersAt}
+use Rattle.model.proofs.Says.{says-holds, one-yes}
 use Rattle.demands.specs.Log.{Client, Account}
-use Rattle.demands.proofs.Stages.{never, First, Early, Late, at-stage, not-both}
+use Rattle.demands.proofs.Stages.{never, First, at-stage, not-both}
 use Rattle.demands.proofs.Owners.{other, Owns}
 use Rattle.demands.proofs.Words.{put-at, put-else}
-use Rattle.demands.proofs.Inv.{Flag, HoldOK, empty, here, was, RowOK, HeadOK, own-head, flag-head, Sides, early, late, SidesOK}
-use Rattle.demands.proofs.Inv.{Block, in-entry, in-other, Count, Core, Inv}
+use Rattle.demands.proofs.Inv.{HoldOK, empty, here, was, RowOK, Sides, early, late, SidesOK, Block, in-entry, in-other, Core, Inv}
 use Rattle.demands.proofs.Blocks.{meter-lt, home-lt, home-entry, home-real, copied-le, from-kind}
 use Rattle.demands.proofs.Entries.{carry-entry}
-use Rattle.demands.proofs.RowLaws.{one-early, carry-phase, marked, cleared-passed, cleared-get, passed-get}
+use Rattle.demands.proofs.RowLaws.{carry-phase, marked, cleared-passed, cleared-get, passed-get}
 use Rattle.demands.proofs.Keeping.{Good}
 
 -- the move at the stage of number k, with n words copied
@@ -39,9 +41,9 @@ restaged v k n = record { stage = k; meter = v .meter; from = v .from; target = 
 module _ {X : Type 0} {dir map : List ℕ} {v : Move} {arena : List ℕ} {val : ℕ → ℕ → ℕ} {kind own : ℕ → ℕ}
     (C : Core X dir map v arena val kind own)
     (l : Early v) (k n : ℕ) (on : T (rules.early (stageOf k))) where
-  keep-head : {m c h : ℕ} → HeadOK v m c h → HeadOK (restaged v k n) m c h
-  keep-head (own-head p) = own-head p
-  keep-head (flag-head _ p q) = flag-head on p q
+  keep-head : {m c h : ℕ} → HeaderRight v m c h → HeaderRight (restaged v k n) m c h
+  keep-head (own-header p) = own-header p
+  keep-head (flag-header _ p q) = flag-header on p q
 
   keep-block : {x i : ℕ} → Block dir v kind x i → Block dir (restaged v k n) kind x i
   keep-block (in-entry p q r) = in-entry p q r
@@ -58,9 +60,9 @@ module _ {X : Type 0} {dir map : List ℕ} {v : Move} {arena : List ℕ} {val : 
   -- the arena may change in words that no meter owns
   goes-on : (arena′ : List ℕ) → length arena′ ≡ 8192
       → ((i d z j : ℕ) → i < 256 → Owns own i d z → j < 8 * z → word arena′ d j ≡ word arena d j)
-      → Count (stageOf k) (words (kind (v .meter))) n → (0 < n → header arena′ (v .target) ≡ plain (v .target))
+      → NumbersAt (stageOf k) (restaged v k n) (words (kind (v .meter))) → (0 < n → header arena′ (v .target) ≡ plain (v .target))
       → (1 < n → label arena′ (v .target) ≡ labelOf (v .meter) (kind (v .meter)))
-      → (X → Flag v (header arena (v .from)) → (j : ℕ) → 0 < j → j < n → word arena′ (v .target) j ≡ word arena (v .from) j)
+      → (X → FlagUp v arena → (j : ℕ) → 0 < j → j < n → word arena′ (v .target) j ≡ word arena (v .from) j)
       → Core X dir map (restaged v k n) arena′ val kind own
   goes-on arena′ len same count head lab replica = record {
     entries256 = C .entries256;
@@ -87,7 +89,7 @@ module _ {X : Type 0} {dir map : List ℕ} {v : Move} {arena : List ℕ} {val : 
         let from : (j : ℕ) → j < 8 * cells (kind (v .meter)) → word arena′ (v .from) j ≡ word arena (v .from) j =
         λ j b. same (v .meter) (v .from) (cells (kind (v .meter))) j (home-lt C (early l)) (E .owns) b in
         replica x (l, sym (from 0 (omega arith)) ∙ f .1) j p q
-        ∙ sym (from j (omega (arith, copied-le (stageOf k) (words (kind (v .meter))) n on count)));
+        ∙ sym (from j (omega (arith, copied-le (stageOf k) (restaged v k n) (words (kind (v .meter))) on count)));
   }
 
 -- a row at another of the first three stages, with another mark, which it passed the first barrier to get
@@ -116,14 +118,10 @@ goes-on-row {dir = dir} {v = v} {h = h} {h′ = h′} {r = r} k n p l on e gone 
     keep-hold (here u e) = here u e
     keep-hold (was y _ _) = absurd (not-both v l y)
 
--- the word that is written
+-- the word that is written, where it is the first
 first-word : (arena : List ℕ) (v : Move) → v .copied ≡ 0 → replicaWord arena v ≡ plain (v .target)
 unfolding replicaWord
 first-word arena v e = rw (eq-eqb (v .copied) 0 e)
-
-next-word : (arena : List ℕ) (v : Move) → v .copied ≢ 0 → replicaWord arena v ≡ word arena (v .from) (v .copied)
-unfolding replicaWord
-next-word arena v n = rw (ne-eqb (v .copied) 0 n)
 
 -- one word more
 module _ {X : Type 0} {dir map : List ℕ} {v : Move} {arena : List ℕ} {val : ℕ → ℕ → ℕ} {kind own : ℕ → ℕ}
@@ -157,29 +155,30 @@ module _ {X : Type 0} {dir map : List ℕ} {v : Move} {arena : List ℕ} {val : 
       ⊎-elim (λ (e : j ≡ v .copied). rw (e, new-word) new) (λ (n : j ≢ v .copied). rw (target-word j (omega arith) n) (old (omega arith)))
       (same-or-not j (v .copied))
 
-  copied-core : (k n : ℕ) → T (rules.early (stageOf k)) → n ≡ suc (v .copied) → Count (stageOf k) (words (kind (v .meter))) n
+  copied-core : (k n : ℕ) → T (rules.early (stageOf k)) → n ≡ suc (v .copied)
+      → NumbersAt (stageOf k) (restaged v k n) (words (kind (v .meter)))
       → Core X dir map (restaged v k n) arena′ val kind own
   copied-core k n on e count =
       goes-on C l k n on arena′ (length-set arena (place (v .target) (v .copied)) (replicaWord arena v) ∙ C .words8192) meter-word count
       (λ _. replica-cases (λ i x. i ≡ 0 → x ≡ plain (v .target)) 0 (omega arith) (λ z. first-word arena v z)
       (λ p _. C .replica-head l p) refl)
       (λ two. replica-cases (λ i x. i ≡ 1 → x ≡ labelOf (v .meter) (kind (v .meter))) 1 (omega arith)
-      (λ z. next-word arena v (λ y. omega arith) ∙ ap (word arena (v .from)) z ∙ home-entry C (early l) .label)
+      (λ z. replica-copies arena v (λ y. omega arith) ∙ ap (word arena (v .from)) z ∙ home-entry C (early l) .label)
       (λ p _. C .replica-label l p) refl)
-      (λ x f j p q. replica-cases (λ i y. 0 < i → y ≡ word arena (v .from) i) j (omega arith) (λ i. next-word arena v (λ y. omega arith))
-      (λ b i. C .replica x f j i b) p)
+      (λ x f j p q. replica-cases (λ i y. 0 < i → y ≡ word arena (v .from) i) j (omega arith)
+      (λ i. replica-copies arena v (λ y. omega arith)) (λ b i. C .replica x f j i b) p)
 
 module _ {X : Type 0} (s : State) (g : Account) (I : Inv X s g) where
   abbrev v : Move
   v = s .control .mv
 
-  pub count-at : (n : Stage) → stageOf (s .control .mv .stage) ≡ n
-      → Count n (words (g .kind (s .control .mv .meter))) (s .control .mv .copied)
-  count-at n e = subst (λ (x : Stage). Count x (words (g .kind (s .control .mv .meter))) (s .control .mv .copied)) e (I .core .count)
+  pub count-at : (n : Stage) → stageOf (s .control .mv .stage) ≡ n → NumbersAt n (s .control .mv) (words (g .kind (s .control .mv .meter)))
+  count-at n e = subst (λ (x : Stage). NumbersAt x (s .control .mv) (words (g .kind (s .control .mv .meter)))) e (I .core .count)
 
   r7-on : Early (s .control .mv) → (k : ℕ) → T (rules.early (stageOf k))
       → s .control .begun ≡ s .control .committed + s .control .aborted + one (rules.early (stageOf k))
-  r7-on l k on = omega (arith, I .r7, one-early (rules.isEarly (s .control .mv)) l, one-early (rules.early (stageOf k)) on)
+  r7-on l k on =
+      omega (arith, I .r7, one-yes (says-holds (rules.isEarly (s .control .mv))) l, one-yes (says-holds (rules.early (stageOf k))) on)
 
   pub first-inv : stageOf (s .control .mv .stage) ≡ firstBarrier → allPassed (s .table) ≡ true → Inv X (startCopying s .next) g
   first-inv e p =
@@ -205,7 +204,8 @@ module _ {X : Type 0} (s : State) (g : Account) (I : Inv X s g) where
       let more : v .copied < 8 * cells (g .kind (v .meter)) = omega (arith, count-at copying e) in
       let up : rise (v .copied) ≡ suc (v .copied) = rise-is (v .copied) 64 (omega arith) (omega arith) in
       let size : wordsAt (s .arena) (v .from) ≡ words (g .kind (v .meter)) = ap words (from-kind (I .core) (early l)) in
-      let core : (k : ℕ) → T (rules.early (stageOf k)) → Count (stageOf k) (words (g .kind (v .meter))) (rise (v .copied))
+      let core : (k : ℕ) → T (rules.early (stageOf k))
+      → NumbersAt (stageOf k) (restaged v k (rise (v .copied))) (words (g .kind (v .meter)))
       → Core X _ _ (restaged v k (rise (v .copied))) _ _ _ _ =
       λ k on count. copied-core (I .core) l more k (rise (v .copied)) on up count in
       let same = sym (from-word (I .core) l more 0 (omega arith)) in

@@ -6,8 +6,8 @@ use mathlib.Core.List.{List}
 use Prim.Native.Nat.{ℕ, suc, pred, _+_, _*_, _≤_, _<_}
 use native.Mathlib.Omega.{arith}
 use lib.Dec.{T, eqb, ltb}
-use lib.ListN.{set}
-use borrow.Author.Tests.{eqb-true, eqb-false, ltb-true, ltb-false, not-false}
+use lib.ListN.{set, getD}
+use borrow.Author.Tests.{eqb-false, ltb-true}
 use Rattle.model.specs.declared.Access.{Access}
 use Rattle.model.specs.declared.Access.the-variants.{Read, Write}
 use Rattle.model.specs.declared.Answer.{Answer}
@@ -19,7 +19,7 @@ use Rattle.model.specs.declared.Row.{Row}
 use Rattle.model.specs.declared.Move.{Move}
 use Rattle.model.specs.declared.Stepped.{Stepped}
 use Rattle.model.specs.Arena.{cells, none, place, word, header, flagged, flagOf, cellsAt, wordsAt, lowestRun}
-use Rattle.model.specs.Rows.{holdOf, wordOf, isWrite, busy, hold, clearMarks, allPassed}
+use Rattle.model.specs.Rows.{holdOf, wordOf, isWrite, busy, hold, clearMarks, allPassed, freshRow}
 use Rattle.model.specs.State.{Stage, idle, firstBarrier, copying, secondBarrier, thirdBarrier, stageOf, rise, entry, State, withArena}
 use Rattle.model.specs.State.{withRow, number, value, Outcome, outcome}
 use Rattle.model.specs.KeeperSteps.{admit, retire, begin, barrier, startCopying, copied, copyWord, commit, callOff, settle, giveBack}
@@ -30,20 +30,21 @@ use Rattle.model.specs.Refusals.{Refusal, refuse}
 use Rattle.model.specs.Steps.{Step, Name, ADMIT, RETIRE, BEGIN, ADVANCE, ATTACH, DETACH, OPEN, DROP, READ, WRITE, GO, REST, UNKNOWN, NOBODY}
 use Rattle.model.specs.Steps.{nameOf, ownRow, refusals, seated, effect, refused, act}
 use Rattle.model.proofs.Choice.{by-test, clash}
-use Rattle.model.proofs.ByKind.{by-kind}
 use Rattle.model.proofs.Parties.{ofKeeper, ofClient, keeper-who, client-who}
-use Rattle.model.proofs.CellMap.{lowest-free}
 use Rattle.model.proofs.Counts.{rise-is}
 use Rattle.model.proofs.Refusals.{Passed, numbers, each, by-refusals}
-use Rattle.demands.specs.Log.{accessTo, Account, clientOf}
-use Rattle.demands.proofs.Stages.{Idle, Early, idle-of}
+use Rattle.model.proofs.Readings.{Early}
+use Rattle.model.proofs.Says.{says-holds, one-yes}
+use Rattle.demands.specs.Log.{accessTo, Account, clientOf, after, log, said}
+use Rattle.demands.proofs.Stages.{Idle, idle-of}
 use Rattle.demands.proofs.Inv.{rests, ready, waits, Inv, early}
 use Rattle.demands.proofs.Blocks.{entry-range, home-real}
-use Rattle.demands.proofs.RowLaws.{oldHeader, PhaseIn, ReadyIn, one-early, phase-rests, row-in}
+use Rattle.demands.proofs.RowLaws.{oldHeader, PhaseIn, ReadyIn, phase-rests, row-in, cleared-get}
 use Rattle.demands.proofs.Entries.{stored-head}
 use Rattle.demands.proofs.Finishes.{home-head, spot-of, read-right}
 use Rattle.demands.proofs.Copying.{count-at, from-word}
-use Rattle.demands.proofs.Admits.{side-word}
+use Rattle.demands.proofs.Admits.{side-word, admission}
+use Rattle.demands.proofs.Always.{always}
 
 -- a client's row r before its step, the answer x, and the row r′ then; `Right` is what is said of the answer that ends an access
 pub data Turn (Right : Answer → Type 0) (r : Row) (x : Answer) (r′ : Row) : Type 0 where
@@ -80,6 +81,15 @@ pub data SameRows (k : List Row) : List Row → Type 0 where
   same : SameRows k k
   cleared : SameRows k (clearMarks k)
 
+-- what they keep of a row
+pub record SameRow (r r′ : Row) : Type 0 where
+  pub swaps : r′ .swaps ≡ r .swaps
+  pub phase : r′ .phase ≡ r .phase
+
+pub same-row : {k k′ : List Row} → SameRows k k′ → (i : ℕ) → SameRow (getD k i freshRow) (getD k′ i freshRow)
+same-row same i = record { swaps = refl; phase = refl }
+same-row {k} cleared i = rw (cleared-get k i) (record { swaps = refl; phase = refl })
+
 pub data Did (Right : Answer → Type 0) (s : State) (t : Step) : Outcome → Type 0 where
   refuses : {n : ℕ} → n < 20 → Did Right s t (refused s n)
   stays : t .who ≡ 0 → Did Right s t (outcome BarrierOpen s)
@@ -88,6 +98,29 @@ pub data Did (Right : Answer → Type 0) (s : State) (t : Step) : Outcome → Ty
   acts : {x : Answer} {r : Row} {arena : List ℕ} → 0 < t .who → t .who ≤ 8 → 30 ≤ number x
       → (Early (s .control .mv) → number x ≢ 33 → header arena (s .control .mv .from) ≡ oldHeader s) → Turn Right (ownRow s t) x r
       → Did Right s t (outcome x (withArena (withRow s (t .who) r) arena))
+
+-- an answer from 34 on ends the access that the client's row is ready for
+pub record Ended (Right : Answer → Type 0) (s : State) (t : Step) (x : Answer) : Type 0 where
+  pub client : 0 < t .who
+  pub at : ℕ
+  pub access : Access
+  pub ready : ownRow s t .phase ≡ Ready at access
+  pub right : Right x
+
+turn-ended : {Right : Answer → Type 0} {s : State} {t : Step} {x : Answer} {r : Row} → 0 < t .who → Turn Right (ownRow s t) x r
+    → 34 ≤ number x → Ended Right s t x
+turn-ended b (handles e _ _) n = absurd (omega arith)
+turn-ended b (readies e _ _) n = absurd (omega arith)
+turn-ended b (waits-on e _ _) n = absurd (omega arith)
+turn-ended b (swaps e _ _ _) n = absurd (omega arith)
+turn-ended b (ends _ _ _ q _ right) n = record { client = b; at = _; access = _; ready = q; right = right }
+
+pub did-ended : {Right : Answer → Type 0} {s : State} {t : Step} {o : Outcome} → Did Right s t o → 34 ≤ number (o .answer)
+    → Ended Right s t (o .answer)
+did-ended (refuses b) n = absurd (omega arith)
+did-ended (stays _) n = absurd (omega arith)
+did-ended (keeps _ _ b _ _) n = absurd (omega arith)
+did-ended (acts b _ _ _ u) n = turn-ended b u n
 
 -- what is said of the answers 34 and 35: they end the access that the log says is open, a read or a write; and a read's value is the last
 -- one written
@@ -117,7 +150,7 @@ module _ {X : Type 0} (s : State) (g : Account) (t : Step) (I : Inv X s g) where
     unfolding settle
     settled e =
         let r7 = I .r7 in
-        let now = one-early (isEarly v) (rw e tt) in
+        let now = one-yes (says-holds (isEarly v)) (rw e tt) in
         by-test D (eqb (header (s .arena) (v .from)) (flagged (v .from)))
         (λ _. keeps k (omega arith) (omega arith) cleared
         (commits e (rise-is (s .control .committed) (s .control .begun) (omega arith) (I .small))))
@@ -147,13 +180,10 @@ module _ {X : Type 0} (s : State) (g : Account) (t : Step) (I : Inv X s g) where
     admitting : Passed (refusals ADMIT s t) → D (effect ADMIT s t)
     admitting p =
         let c : ℕ = lowestRun (s .control .map) (cells (t .b)) in
-        let small = ltb-false 3 (t .b) (p .1 .0) in
-        let hk : t .b < 4 = omega arith in
-        let run = lowest-free (s .control .map) (cells (t .b)) (by-kind (t .b) hk .some) (eqb-false c none (p .1 .1 .1 .0)) in
-        let absent = eqb-true (entry (s .control .dir) (t .a)) none (not-false (eqb (entry (s .control .dir) (t .a)) none) (p .1 .1 .0)) in
+        let A = admission s t p in
         keeps {x = Admitted c} k (omega arith) (omega arith) same (admits (t .a) (t .b) c
         (λ l. let z = home-real (I .core) (early l) in
-        side-word (I .core) (t .a) (t .b) c (ltb-false 255 (t .a) (p .0)) hk absent run (early l) 0 (omega arith) .0))
+        side-word (I .core) (t .a) (t .b) c (A .meter) (A .kind) (A .absent) (A .run) (early l) 0 (omega arith) .0))
 
     beginning : Passed (refusals BEGIN s t) → D (effect BEGIN s t)
     beginning p =
@@ -248,3 +278,7 @@ module _ {X : Type 0} (s : State) (g : Account) (t : Step) (I : Inv X s g) where
   pub did : Did (Finished X g t) s t (act s t)
   unfolding act
   did = by-name (nameOf t) (keeper-who (t .who) (t .code)) (client-who (t .who) (t .code))
+
+-- after any steps from fresh
+pub did-after : (l : List Step) (t : Step) → Did (Finished (Unit {0}) (said (log l)) t) (after l) t (act (after l) t)
+did-after l t = did (after l) (said (log l)) t (always l)

@@ -19,14 +19,15 @@ use Rattle.model.specs.Steps.{Step, ADVANCE}
 use Rattle.model.proofs.Choice.{by-test}
 use Rattle.model.proofs.CellMap.{run-map}
 use Rattle.model.proofs.Counts.{rise-is}
+use Rattle.model.proofs.Readings.{FlagUp, HeaderRight, own-header, flag-header, Early, Late}
+use Rattle.model.proofs.Says.{says-holds, one-yes, one-no}
 use Rattle.demands.specs.Log.{Client, Account}
-use Rattle.demands.proofs.Stages.{Early, Late, not-both}
+use Rattle.demands.proofs.Stages.{not-both}
 use Rattle.demands.proofs.Owners.{repaint, repaint-cases, owns-keep, mapped-run}
-use Rattle.demands.proofs.Inv.{Flag, HoldOK, empty, here, was, RowOK, HeadOK, own-head, flag-head, Sides, early, late, Block}
-use Rattle.demands.proofs.Inv.{in-entry, in-other, Core, Inv}
+use Rattle.demands.proofs.Inv.{HoldOK, empty, here, was, RowOK, Sides, early, late, Block, in-entry, in-other, Core, Inv}
 use Rattle.demands.proofs.Blocks.{still, meter-lt, from-kind}
 use Rattle.demands.proofs.Entries.{carry-entry}
-use Rattle.demands.proofs.RowLaws.{one-early, one-not, carry-phase, passed-get}
+use Rattle.demands.proofs.RowLaws.{carry-phase, passed-get}
 use Rattle.demands.proofs.Keeping.{Good, Keeps, keeps}
 use Rattle.demands.proofs.Copying.{first-inv, copy-inv}
 use Rattle.demands.proofs.Commits.{commit-inv}
@@ -40,10 +41,11 @@ one-side (late _) (late _) = refl
 
 module _ {X : Type 0} {dir map : List ℕ} {v : Move} {arena : List ℕ} {val : ℕ → ℕ → ℕ} {kind own : ℕ → ℕ}
     (C : Core X dir map v arena val kind own)
-    (down : Flag v (header arena (v .from)) → ⊥) {c d : ℕ} (b : Sides v c d) where
-  plain-head : {m : ℕ} → HeadOK v m (entry dir m) (header arena (entry dir m)) → HeadOK noMove m (entry dir m) (header arena (entry dir m))
-  plain-head (own-head p) = own-head p
-  plain-head {m} (flag-head l p h) =
+    (down : FlagUp v arena → ⊥) {c d : ℕ} (b : Sides v c d) where
+  plain-head : {m : ℕ} → HeaderRight v m (entry dir m) (header arena (entry dir m))
+      → HeaderRight noMove m (entry dir m) (header arena (entry dir m))
+  plain-head (own-header p) = own-header p
+  plain-head {m} (flag-header l p h) =
       let z : entry dir m ≡ v .from = ap (entry dir) p ∙ C .sides (early l) .home in
       absurd (down (l, ap (header arena) (sym z) ∙ h ∙ ap flagged z))
 
@@ -54,7 +56,7 @@ module _ {X : Type 0} {dir map : List ℕ} {v : Move} {arena : List ℕ} {val : 
       (λ m y. let E = C .entries m y in
       carry-entry E (owns-keep own d n none m (entry dir m) (cells (kind m))
       (λ x p q e. omega (arith, C .sides b .owns x p q, meter-lt C m y)) (E .owns)) (plain-head (E .head)) (λ j _ _. refl))
-      (mapped-run own map d n none 0 (C .is-map) (C .sides b .range) (omega arith) refl (C .mapped))
+      (mapped-run own map d n none 0 (C .is-map) (omega arith) refl (C .mapped))
       (λ x. repaint-cases (λ (i : ℕ). i ≢ none → Block dir noMove kind x i) own d n none x (λ _ _ e. absurd (e refl))
       (λ o i. keep-block o (C .owned x i)))
     where
@@ -94,7 +96,7 @@ module _ {X : Type 0} (s : State) (g : Account) (I : Inv X s g) where
   call-off-inv e down =
       let l : Early v = rw e tt in
       let r7 = I .r7 in
-      let now = one-early (isEarly v) l in
+      let now = one-yes (says-holds (isEarly v)) l in
       let up : rise (s .control .aborted) ≡ suc (s .control .aborted) = rise-is (s .control .aborted) (s .control .begun) (omega arith)
       (I .small) in
       rw (from-kind (I .core) (early l)) (record {
@@ -114,7 +116,7 @@ module _ {X : Type 0} (s : State) (g : Account) (I : Inv X s g) where
         core = ended-core (I .core) (λ f. not-both v (f .0) l) (late l);
         eight = I .eight;
         rows = λ i. ended-row (λ _. passed-get (s .table) p i) (I .rows i);
-        r7 = omega (arith, I .r7, one-not (isEarly v) (λ y. not-both v y l));
+        r7 = omega (arith, I .r7, one-no (says-holds (isEarly v)) (λ y. not-both v y l));
         small = I .small;
       })
 

@@ -11,13 +11,14 @@ use Rattle.model.specs.Arena.{cells, none, place, word, header}
 use Rattle.model.specs.State.{entry}
 use Rattle.model.proofs.Choice.{same-or-not}
 use Rattle.model.proofs.ByKind.{Real, by-kind}
+use Rattle.model.proofs.Readings.{HeaderRight}
 use Rattle.demands.proofs.Owners.{Owns}
 use Rattle.demands.proofs.Words.{put-at, put-else}
-use Rattle.demands.proofs.Inv.{HeadOK, EntryOK, Core}
+use Rattle.demands.proofs.Inv.{EntryOK, Core}
 
 pub carry-entry : {X : Type 0} {v v′ : Move} {arena arena′ : List ℕ} {val : ℕ → ℕ → ℕ} {kind own own′ : ℕ → ℕ} {m c : ℕ}
     → EntryOK X v arena val kind own m c
-    → Owns own′ m c (cells (kind m)) → HeadOK v′ m c (header arena′ c)
+    → Owns own′ m c (cells (kind m)) → HeaderRight v′ m c (header arena′ c)
     → ((j : ℕ) → 0 < j → j < 8 * cells (kind m) → word arena′ c j ≡ word arena c j)
     → EntryOK X v′ arena′ val kind own′ m c
 carry-entry {kind = kind} {m = m} E o h same =
@@ -63,8 +64,8 @@ module _ {X : Type 0} {dir map : List ℕ} {v : Move} {arena : List ℕ} {val : 
   stored-else i d n j o b f = let z = old-real in put-else own arena a c (cells (kind a)) 0 w i d n j (old-entry .owns) o (omega arith) b f
 
   pub stored-entry : {v′ : Move} {own′ : ℕ → ℕ} (m : ℕ) → entry dir m ≢ none → Owns own′ m (entry dir m) (cells (kind m))
-      → (m ≡ a → HeadOK v′ a c w)
-      → (m ≢ a → HeadOK v m (entry dir m) (header arena (entry dir m)) → HeadOK v′ m (entry dir m) (header arena (entry dir m)))
+      → (m ≡ a → HeaderRight v′ a c w)
+      → (m ≢ a → HeaderRight v m (entry dir m) (header arena (entry dir m)) → HeaderRight v′ m (entry dir m) (header arena (entry dir m)))
       → EntryOK X v′ (set arena (place c 0) w) val kind own′ m (entry dir m)
   stored-entry {v′} m n o h keep =
       carry-entry E o (⊎-elim same other (same-or-not m a))
@@ -76,10 +77,10 @@ module _ {X : Type 0} {dir map : List ℕ} {v : Move} {arena : List ℕ} {val : 
       at-c : m ≡ a → c ≡ entry dir m
       at-c z = sym e ∙ ap (entry dir) (sym z)
 
-      same : m ≡ a → HeadOK v′ m (entry dir m) (header (set arena (place c 0) w) (entry dir m))
+      same : m ≡ a → HeaderRight v′ m (entry dir m) (header (set arena (place c 0) w) (entry dir m))
       same z = rw (z, e, stored-head) (h z)
 
-      other : m ≢ a → HeadOK v′ m (entry dir m) (header (set arena (place c 0) w) (entry dir m))
+      other : m ≢ a → HeaderRight v′ m (entry dir m) (header (set arena (place c 0) w) (entry dir m))
       other z =
           let k = by-kind (kind m) (E .kinded) in
           rw (stored-else m (entry dir m) (cells (kind m)) 0 (E .owns) (omega arith) (λ y. absurd (z (sym y)))) (keep z (E .head))

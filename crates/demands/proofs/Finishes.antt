@@ -23,13 +23,14 @@ use Rattle.model.specs.ClientSteps.{finish, go}
 use Rattle.model.specs.Steps.{Step, GO, ownRow, seated}
 use Rattle.model.proofs.Choice.{by-test, clash}
 use Rattle.model.proofs.ByKind.{by-kind}
-use Rattle.demands.specs.Log.{noAccess, Account, update, clientOf, withPending, told}
-use Rattle.demands.proofs.Stages.{Early, Late, not-both}
+use Rattle.model.proofs.Readings.{Flag, FlagUp, Early, Late}
+use Rattle.demands.specs.Log.{noAccess, Account, update, clientOf, withPending, saidBy}
+use Rattle.demands.proofs.Stages.{not-both}
 use Rattle.demands.proofs.Lists.{set-both}
 use Rattle.demands.proofs.Owners.{other, Owns}
 use Rattle.demands.proofs.Words.{put-at, put-else}
-use Rattle.demands.proofs.Inv.{Flag, HoldOK, empty, here, was, Place, at-entry, at-hold, rests, ready, waits, RowOK, EntryOK, early}
-use Rattle.demands.proofs.Inv.{late, Core, Inv}
+use Rattle.demands.proofs.Inv.{HoldOK, empty, here, was, Place, at-entry, at-hold, rests, ready, waits, RowOK, EntryOK, early, late}
+use Rattle.demands.proofs.Inv.{Core, Inv}
 use Rattle.demands.proofs.Blocks.{meter-lt, home-in, home-entry, home-real, side-apart, copied-fit, first-uncopied, held-in}
 use Rattle.demands.proofs.Keeping.{Keeps, keeps}
 use Rattle.demands.proofs.RowLaws.{oldHeader, PhaseIn, ReadyIn, RowIn, reflag-row, row-in, with-rows}
@@ -128,7 +129,7 @@ module _ {X : Type 0} {dir map : List ℕ} {v : Move} {arena : List ℕ} {val : 
             (λ p. same (2 + j) (omega arith) (λ e. absurd (eqb-false n m p (sym e ∙ S .mine x))) ∙ E .vals x j b);
       }
 
-  pub written-core : (X → Flag v (header arena (v .from)) → 0 < v .copied → c ≢ v .from)
+  pub written-core : (X → FlagUp v arena → 0 < v .copied → c ≢ v .from)
       → Core X dir map v arena′ (update val m (update (val m) w u)) kind own
   written-core away = record {
     entries256 = C .entries256;
@@ -146,7 +147,7 @@ module _ {X : Type 0} {dir map : List ℕ} {v : Move} {arena : List ℕ} {val : 
     replica-label = λ l p. let z = home-real C (early l) in target-word l 1 (omega arith) ∙ C .replica-label l p;
     replica = λ x f k p q.
         let l = f .0 in
-        let f′ : Flag v (header arena (v .from)) = (l, sym (home-head l) ∙ f .1) in
+        let f′ : FlagUp v arena = (l, sym (home-head l) ∙ f .1) in
         let b : k < 8 * cells (kind (v .meter)) = omega (arith, copied-fit C l) in
         target-word l k b ∙ C .replica x f′ k p q
         ∙ sym (else (v .meter) (v .from) (cells (kind (v .meter))) k (home-entry C (early l) .owns) b
@@ -158,7 +159,7 @@ module _ {X : Type 0} (s : State) (g : Account) (t : Step) (I : Inv X s g) (seat
   R = row-in I t
 
   abbrev Next : Stepped → Type 0
-  Next o = Inv X (seated s t o .next) (told GO g t (o .answer))
+  Next o = Inv X (seated s t o .next) (saidBy GO g t (o .answer))
 
   module _ (c : ℕ) (x : Access) (W : ReadyIn X s g t c x) where
     pub spot-of : (i : ℕ) × Spot X (s .control .dir) (s .control .mv) (g .kind) (I .own) i (clientOf g t .opened (holdOf x)) c

@@ -17,20 +17,19 @@ use Rattle.model.specs.Arena.{cells, words, none, header, flagged, targetOf, la
 use Rattle.model.specs.Rows.{holdOf, hold, freshRow, FourHolds}
 use Rattle.model.specs.State.{Stage, idle, firstBarrier, copying, secondBarrier, thirdBarrier, stageOf, inHand, noMove, entry, State, Sizes}
 use Rattle.model.specs.Choice.{every}
-use Rattle.model.specs.Rules.{isEarly, early as early-stage, late as late-stage, covers, flagUp}
+use Rattle.model.specs.Rules.{isEarly, covers, flagUp}
 use Rattle.model.proofs.Choice.{same-or-not}
 use Rattle.model.proofs.ByKind.{by-kind}
 use Rattle.model.proofs.Says.{says-eq, says-holds, says-not, says-when, says-every, all-get, one-yes}
-use Rattle.model.proofs.Readings.{Sound, NumbersAt, HeaderRight, own-header, flag-header, HoldRight, hold-empty, hold-present, hold-old}
-use Rattle.model.proofs.Readings.{AccessRight, PhaseRight, RowRight, SwapsAt, Owing, owed-words, waiting-owes, says-flag}
-use Rattle.model.proofs.Covers.{record-in, record-is, covers-in, covers-is, otherOver, other-early, other-late, other-by}
+use Rattle.model.proofs.Readings.{present-lt, Sound, NumbersAt, HoldRight, hold-empty, hold-present, hold-old, AccessRight, PhaseRight}
+use Rattle.model.proofs.Readings.{RowRight, SwapsAt, Owing, owed-words, waiting-owes, says-flag}
+use Rattle.model.proofs.Covers.{covers-in, covers-is, otherOver, other-early, other-late, other-by}
 use Rattle.model.proofs.Fresh.{fresh-row, fresh-swaps}
 use Rattle.demands.specs.Log.{Pending, noAccess, accessTo, Client, Account}
-use Rattle.demands.proofs.Lists.{getD-in}
 use Rattle.demands.proofs.Owners.{other, Owns}
-use Rattle.demands.proofs.Inv.{HoldOK, empty, here, was, Place, at-entry, at-hold, Asked, PhaseOK, rests, ready, waits, RowOK}
-use Rattle.demands.proofs.Inv.{HeadOK, own-head, flag-head, Sides, early, late, SidesOK, Block, in-entry, in-other, Count, Core, Inv}
-use Rattle.demands.proofs.Blocks.{Cell, unflagged, flagged-cell, held-kind, cell}
+use Rattle.demands.proofs.Inv.{HoldOK, empty, here, was, Place, at-entry, at-hold, Asked, PhaseOK, rests, ready, waits, RowOK, Sides}
+use Rattle.demands.proofs.Inv.{early, late, SidesOK, Block, in-entry, in-other, Core, Inv}
+use Rattle.demands.proofs.Blocks.{Cell, unflagged, flagged-cell, held-kind, cell, numbers-same}
 use Rattle.demands.proofs.Cover.{owner, Owner, beyond, nobody, the-other, a-record, owner-is, owner-record, owner-other}
 use Rattle.demands.proofs.Cover.{owner-mapped}
 
@@ -72,15 +71,6 @@ idle-zero : (n : ℕ) → n < 5 → T (not (inHand (stageOf n))) → n ≡ 0
 unfolding every
 idle-zero = says-every 5 _ _ (λ n. says-when (says-holds (not (inHand (stageOf n)))) (says-eq n 0)) .holds refl
 
--- R5, with the moved record's words read from its entry
-count-of : (v : Move) (z z′ : ℕ) (g : Stage) → (T (early-stage g) → z ≡ z′) → (T (late-stage g) → z ≡ z′) → NumbersAt g v z
-    → Count g z′ (v .copied)
-count-of v z z′ idle a b r = tt
-count-of v z z′ firstBarrier a b r = r
-count-of v z z′ copying a b r = let e = a tt in omega arith
-count-of v z z′ secondBarrier a b r = r ∙ a tt
-count-of v z z′ thirdBarrier a b r = r ∙ b tt
-
 module _ (s : State) (Z : Sizes s) (S : Sound s) where
   abbrev dir : List ℕ
   dir = s .control .dir
@@ -92,10 +82,10 @@ module _ (s : State) (Z : Sizes s) (S : Sound s) where
   arena = s .arena
 
   abbrev own : ℕ → ℕ
-  own = owner dir v arena
+  own = owner dir (s .control .map) v arena (S .r3) (Z .entries)
 
   meter-lt : (m : ℕ) → entry dir m ≢ none → m < 256
-  meter-lt m n = omega (arith, getD-in dir m none n, Z .entries)
+  meter-lt = present-lt dir (Z .entries)
 
   kind-lt : (m : ℕ) → kindIn s m < 4
   kind-lt m = omega arith
@@ -121,13 +111,13 @@ module _ (s : State) (Z : Sizes s) (S : Sound s) where
   own-entry : (m : ℕ) → entry dir m ≢ none → Owns own m (entry dir m) (cells (kindIn s m))
   own-entry m n x p q =
       let h = meter-lt m n in
-      owner-record dir v arena (s .control .map) (S .r3) (Z .entries) x m (omega (arith, S .r1 m h n .within)) (omega (arith, Z .entries))
-      (record-in arena x (entry dir m) (record { present = n; low = p; high = q }))
+      owner-record dir (s .control .map) v arena (S .r3) (Z .entries) x m (omega (arith, S .r1 m h n .within)) (omega (arith, Z .entries))
+      (record { present = n; low = p; high = q })
 
   own-other : {d : ℕ} → d + cells (kindIn s (v .meter)) ≤ 1024 → ((x : ℕ) → otherOver v arena x ≡ covers d (cells (kindIn s (v .meter))) x)
       → Owns own other d (cells (kindIn s (v .meter)))
   own-other {d} h e x p q =
-      owner-other dir v arena (s .control .map) (S .r3) (Z .entries) x (omega arith) (e x ∙ covers-in d (cells (kindIn s (v .meter))) x p q)
+      owner-other dir (s .control .map) v arena (S .r3) (Z .entries) x (omega arith) (e x ∙ covers-in d (cells (kindIn s (v .meter))) x p q)
 
   side-right : {c d : ℕ} → Sides v c d → entry dir (v .meter) ≢ none → entry dir (v .meter) ≡ c → d + cellsAt arena (v .from) ≤ 1024
       → ((x : ℕ) → otherOver v arena x ≡ covers d (cellsAt arena (v .from)) x) → SidesOK dir v (kindIn s) own c d
@@ -145,20 +135,16 @@ module _ (s : State) (Z : Sizes s) (S : Sound s) where
   sides-of (early l) = let E = S .r2 .early l in side-right (early l) (E .present) (E .old) (E .within) (λ x. other-early v arena x l)
   sides-of (late l) = let L = S .r2 .late l in side-right (late l) (L .present) (L .new) (L .within) (λ x. other-late v arena x l)
 
-  block-of : (x : ℕ) {i : ℕ} → Owner dir v arena x i → i ≢ none → Block dir v (kindIn s) x i
+  block-of : (x : ℕ) {i : ℕ} → Owner dir (s .control .map) v arena x i → i ≢ none → Block dir v (kindIn s) x i
   block-of x (beyond p) n = absurd (n refl)
   block-of x (nobody h p) n = absurd (n refl)
-  block-of x {i} (a-record h p q) n = let o = record-is arena x (entry dir i) q in in-entry (o .present) (o .low) (o .high)
+  block-of x (a-record h p o) n = in-entry (o .present) (o .low) (o .high)
   block-of x (the-other h p) n =
       other-by v arena x (λ (n : ℕ). n ≡ 1 → Block dir v (kindIn s) x other) (λ l. side (early l)) (λ l. side (late l))
       (λ _ _ e. absurd (omega arith)) p
     where
       side : {c d : ℕ} → Sides v c d → covers d (cellsAt arena (v .from)) x ≡ 1 → Block dir v (kindIn s) x other
       side {c} {d} b e = let o = covers-is d (cellsAt arena (v .from)) x e in in-other b refl (o .0) (omega (arith, o .1, from-cells b))
-
-  head-of : {m c h : ℕ} → HeaderRight v m c h → HeadOK v m c h
-  head-of (own-header e) = own-head e
-  head-of (flag-header l n e) = flag-head l n e
 
   core-of : Core ⊥ dir (s .control .map) v arena (λ m w. 0) (kindIn s) own
   core-of =
@@ -172,15 +158,15 @@ module _ (s : State) (Z : Sizes s) (S : Sound s) where
               range = S .r1 m (meter-lt m n) n .within;
               label = label-is m n;
               owns = own-entry m n;
-              head = head-of (S .r4 .entries m (meter-lt m n) n);
+              head = S .r4 .entries m (meter-lt m n) n;
               vals = λ x. absurd x;
             };
-        mapped = owner-mapped dir v arena (s .control .map) (S .r3) (Z .entries);
-        owned = λ x. block-of x (owner-is dir v arena x);
+        mapped = owner-mapped dir (s .control .map) v arena (S .r3) (Z .entries);
+        owned = λ x. block-of x (owner-is dir (s .control .map) v arena (S .r3) (Z .entries) x);
         idle = λ i. no-move v (wordsAt arena (v .from)) (stageOf (v .stage)) i (S .r5) (idle-zero (v .stage) (S .r2 .stage) i);
         sides = sides-of;
         count =
-            count-of v (wordsAt arena (v .from)) (words (kindIn s (v .meter))) (stageOf (v .stage)) (λ l. from-words (early l))
+            numbers-same (stageOf (v .stage)) v (wordsAt arena (v .from)) (words (kindIn s (v .meter))) (λ l. from-words (early l))
             (λ l. from-words (late l)) (S .r5);
         old-head = S .r4 .old;
         old-label = λ l. from-label (late l) ∙ label-is (v .meter) (S .r2 .late l .present);

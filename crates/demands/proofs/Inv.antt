@@ -12,17 +12,14 @@ use Rattle.model.specs.declared.Phase.the-variants.{Resting, Ready, Waiting}
 use Rattle.model.specs.declared.Row.{Row}
 use Rattle.model.specs.declared.Move.{Move}
 use Rattle.model.specs.Choice.{one}
-use Rattle.model.specs.Arena.{cells, words, payload, none, word, header, plain, flagged, label, labelOf, IsMap}
+use Rattle.model.specs.Arena.{cells, words, payload, none, word, header, plain, label, labelOf, IsMap}
 use Rattle.model.specs.Rows.{holdOf, wordOf, hold, freshRow}
-use Rattle.model.specs.State.{Stage, idle, firstBarrier, copying, secondBarrier, thirdBarrier, stageOf, noMove, entry, State}
+use Rattle.model.specs.State.{stageOf, noMove, entry, State}
 use Rattle.model.specs.Rules.{isEarly}
+use Rattle.model.proofs.Readings.{Flag, FlagUp, HeaderRight, Early, Late, NumbersAt}
 use Rattle.demands.specs.Log.{noAccess, accessTo, Client, Account}
-use Rattle.demands.proofs.Stages.{Idle, First, Early, Late}
+use Rattle.demands.proofs.Stages.{Idle, First}
 use Rattle.demands.proofs.Owners.{other, Owns, Mapped}
-
--- the moved record's header, h, is flagged
-abbrev pub Flag : Move → ℕ → Type 0
-Flag v h = Early v × (h ≡ flagged (v .from))
 
 -- R6: a hold is empty, a present record, or the old block; h is its cell, m the meter that it was opened on
 pub data HoldOK (dir : List ℕ) (v : Move) (h m : ℕ) : Type 0 where
@@ -76,16 +73,12 @@ pub record RowOK (X : Type 0) (dir : List ℕ) (v : Move) (kind : ℕ → ℕ) (
   pub phase : PhaseOK X dir v kind h begun r q (r .phase)
 
 -- R1, R4 and demand 2 for one record: meter m's, at cell c
-pub data HeadOK (v : Move) (m c h : ℕ) : Type 0 where
-  own-head : h ≡ plain c → HeadOK v m c h
-  flag-head : Early v → m ≡ v .meter → h ≡ flagged c → HeadOK v m c h
-
 pub record EntryOK (X : Type 0) (v : Move) (arena : List ℕ) (val : ℕ → ℕ → ℕ) (kind own : ℕ → ℕ) (m c : ℕ) : Type 0 where
   pub kinded : kind m < 4
   pub range : c + cells (kind m) ≤ 1024
   pub label : label arena c ≡ labelOf m (kind m)
   pub owns : Owns own m c (cells (kind m))
-  pub head : HeadOK v m c (header arena c)
+  pub head : HeaderRight v m c (header arena c)
   pub vals : X → (w : ℕ) → w < payload (kind m) → word arena c (2 + w) ≡ val m w
 
 -- the two blocks of a move: the moved meter's entry, and "the move's other block"
@@ -105,14 +98,6 @@ pub data Block (dir : List ℕ) (v : Move) (kind : ℕ → ℕ) (x i : ℕ) : Ty
   in-entry : entry dir i ≢ none → entry dir i ≤ x → x < entry dir i + cells (kind i) → Block dir v kind x i
   in-other : {c d : ℕ} → Sides v c d → i ≡ other → d ≤ x → x < d + cells (kind (v .meter)) → Block dir v kind x i
 
--- R5: n of a record's z words are copied
-abbrev pub Count : Stage → ℕ → ℕ → Type 0
-Count idle z n = Unit {0}
-Count firstBarrier z n = n ≡ 0
-Count copying z n = n < z
-Count secondBarrier z n = n ≡ z
-Count thirdBarrier z n = n ≡ z
-
 -- R1 to R5
 pub record Core (X : Type 0) (dir map : List ℕ) (v : Move) (arena : List ℕ) (val : ℕ → ℕ → ℕ) (kind own : ℕ → ℕ) : Type 0 where
   pub entries256 : length dir ≡ 256
@@ -123,12 +108,12 @@ pub record Core (X : Type 0) (dir map : List ℕ) (v : Move) (arena : List ℕ) 
   pub owned : (x : ℕ) → own x ≢ none → Block dir v kind x (own x)
   pub idle : Idle v → v ≡ noMove
   pub sides : {c d : ℕ} → Sides v c d → SidesOK dir v kind own c d
-  pub count : Count (stageOf (v .stage)) (words (kind (v .meter))) (v .copied)
+  pub count : NumbersAt (stageOf (v .stage)) v (words (kind (v .meter)))
   pub old-head : Late v → header arena (v .from) ≡ plain (v .target)
   pub old-label : Late v → label arena (v .from) ≡ labelOf (v .meter) (kind (v .meter))
   pub replica-head : Early v → 0 < v .copied → header arena (v .target) ≡ plain (v .target)
   pub replica-label : Early v → 1 < v .copied → label arena (v .target) ≡ labelOf (v .meter) (kind (v .meter))
-  pub replica : X → Flag v (header arena (v .from)) → (k : ℕ) → 0 < k → k < v .copied → word arena (v .target) k ≡ word arena (v .from) k
+  pub replica : X → FlagUp v arena → (k : ℕ) → 0 < k → k < v .copied → word arena (v .target) k ≡ word arena (v .from) k
 
 -- the row at place i of the table, against the log's client i
 abbrev pub Rows : Type 0 → List ℕ → Move → (ℕ → ℕ) → ℕ → ℕ → List Row → (ℕ → Client) → Type 0

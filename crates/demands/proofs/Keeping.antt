@@ -3,12 +3,12 @@ use Rattle.model.specs.State.{State, Outcome}
 use Rattle.model.specs.Refusals.{refuse}
 use Rattle.model.specs.Steps.{Step, Name, refusals, effect, refused}
 use Rattle.model.proofs.Refusals.{Passed, unless-refused}
-use Rattle.demands.specs.Log.{Account, told}
+use Rattle.demands.specs.Log.{Account, saidBy}
 use Rattle.demands.proofs.Inv.{Inv}
 
 -- the invariant holds of the next state and the log's next account
 abbrev pub Good : Type 0 → Name → Account → Step → Outcome → Type 0
-Good X n g t o = Inv X (o .next) (told n g t (o .answer))
+Good X n g t o = Inv X (o .next) (saidBy n g t (o .answer))
 
 abbrev pub Keeps : Type 0 → Name → State → Account → Step → Type 0
 Keeps X n s g t = Good X n g t (refuse (refusals n s t) (refused s) (effect n s t))

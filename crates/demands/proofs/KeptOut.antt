@@ -48,16 +48,13 @@ has-label : word (after aboutToCopy .arena) (moveOf (after aboutToCopy) .from) 1
 unfolding kindTable ofKind laid bit withBit used put putRun freeCells runAt lowestFrom lowestRun rise barrier replicaWord copyWord act
 has-label = refl
 
--- on fresh, and on what is reached, a program that meets the contract does as `act` does
-meets-fresh : (f : Program) → Meets f → (t : Step) → f fresh t ≡ act fresh t
-meets-fresh f m t = m fresh t ∙ step-after [] t
-
+-- on what is reached a program that meets the contract does as `act` does
 meets-reached : (f : Program) → Meets f → (l : List Step) (t : Step) → f (reached l) t ≡ act (after l) t
 meets-reached f m l t = m (reached l) t ∙ same-step stepCall act step-after l t (reached-is l)
 
 module _ (f : Program) (m : Meets f) where
   answers : (t : Step) → f fresh t .answer ≡ act fresh t .answer
-  answers t = ap (λ (o : Outcome). o .answer) (meets-fresh f m t)
+  answers t = ap (λ (o : Outcome). o .answer) (meets-reached f m [] t)
 
   not-refusing : ¬ (RefusesEverything f)
   not-refusing r =
@@ -76,7 +73,7 @@ module _ (f : Program) (m : Meets f) where
   not-idle same =
       let e : getD (act fresh admission .next .control .dir) 0 0 ≡ none =
       ap (λ (s : State). getD (s .control .dir) 0 0)
-      (ap (λ (o : Outcome). o .next) (sym (meets-fresh f m admission)) ∙ same fresh admission) in
+      (ap (λ (o : Outcome). o .next) (sym (meets-reached f m [] admission)) ∙ same fresh admission) in
       omega (arith, enters)
 
   not-at-once : ¬ (CopiesAtOnce f)

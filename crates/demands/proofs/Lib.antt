@@ -28,6 +28,7 @@ pub mod FromRules
 pub mod ToRules
 pub mod Kept
 pub mod Runs
+pub mod Requests
 pub mod Promised
 pub mod KeptOut
 pub mod NoWrap

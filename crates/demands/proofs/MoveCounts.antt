@@ -15,10 +15,11 @@ use Rattle.model.specs.Arena.{words}
 use Rattle.model.specs.State.{Stage, idle, firstBarrier, copying, secondBarrier, thirdBarrier, stageOf, inHand, State, number, Outcome}
 use Rattle.model.specs.Steps.{Step, act}
 use Rattle.model.proofs.Choice.{by-test, and-parts}
-use Rattle.demands.specs.Log.{line, Log, Account, after, log, said, answered, workingSteps, lastMoved}
+use Rattle.demands.specs.Log.{line, Log, after, log, said, answered, workingSteps, lastMoved, Line}
+use Rattle.demands.specs.Promises.{movedWords, MovePrice}
 use Rattle.demands.proofs.Inv.{Inv}
 use Rattle.demands.proofs.Did.{Did, refuses, stays, keeps, acts, Kept, admits, retires, begins, starts, copies, fills, commits}
-use Rattle.demands.proofs.Did.{calls-off, gives-back, did}
+use Rattle.demands.proofs.Did.{calls-off, gives-back, did-after}
 use Rattle.demands.proofs.Counted.{did-counted}
 use Rattle.demands.proofs.Copying.{count-at}
 use Rattle.demands.proofs.Always.{always}
@@ -76,9 +77,9 @@ did-told {t = t} (stays _) m = silent t BarrierOpen (omega arith) (omega arith) 
 did-told (keeps _ _ _ _ k) m = kept-told k m
 did-told {t = t} (acts {x = x} _ _ b _ _) m = silent t x (omega arith) (omega arith) m
 
-told : (l : List Step) → MovesTold (after l .control .mv) (log l)
-told [] = record { work = tt; meter = λ z. absurd z }
-told (t ∷ l) = did-told (did (after l) (said (log l)) t (always {X = ⊥} l)) (told l)
+moves-told : (l : List Step) → MovesTold (after l .control .mv) (log l)
+moves-told [] = record { work = tt; meter = λ z. absurd z }
+moves-told (t ∷ l) = did-told (did-after l t) (moves-told l)
 
 -- the counts of the control record
 counts : (l : List Step)
@@ -86,7 +87,7 @@ counts : (l : List Step)
     × (after l .control .committed ≡ answered 25 (log l))
     × (after l .control .aborted ≡ answered 26 (log l))
 counts [] = (refl, refl, refl)
-counts (t ∷ l) = omega (arith, did-counted (did (after l) (said (log l)) t (always {X = ⊥} l)), counts l)
+counts (t ∷ l) = omega (arith, did-counted (did-after l t), counts l)
 
 pub begun-is-answered : (l : List Step) → after l .control .begun ≡ answered 21 (log l)
 begun-is-answered l = counts l .0
@@ -101,53 +102,38 @@ aborted-is-answered l = counts l .2
 pub moves-end-once : (l : List Step) → answered 25 (log l) + answered 26 (log l) ≤ answered 21 (log l)
 moves-end-once l = omega (arith, counts l, always {X = ⊥} l .r7)
 
--- the working steps of a move of n words when it ends: called off, or given back
-abbrev Worked : ℕ → ℕ → ℕ → Type 0
-Worked x n w = (x ≡ 26 → w ≡ n + 3) × (x ≡ 27 → w ≡ n + 4)
+-- the working steps of a move when it ends, called off or given back
+unpriced : (x : Line) (l : Log) → number (x .answer) ≢ 26 → number (x .answer) ≢ 27 → MovePrice x l
+unpriced x l a b = record { called-off = λ e. absurd (a e); given-back = λ e. absurd (b e) }
 
-unworked : (x n w : ℕ) → x ≢ 26 → x ≢ 27 → Worked x n w
-unworked x n w a b = (λ e. absurd (a e), λ e. absurd (b e))
-
-module _ {X : Type 0} {s : State} {g : Account} {l : Log} (I : Inv X s g) (m : MovesTold (s .control .mv) l) where
-  abbrev n : ℕ
-  n = words (g .kind (lastMoved l))
-
-  moved-words : (b : Stage) → stageOf (s .control .mv .stage) ≡ b → T (inHand b) → words (g .kind (s .control .mv .meter)) ≡ n
-  moved-words b e i = ap (λ (k : ℕ). words (g .kind k)) (meter-at m b e i)
-
+module _ {X : Type 0} {s : State} {l : Log} (I : Inv X s (said l)) (m : MovesTold (s .control .mv) l) where
   -- at the second and third barrier as many words are copied as the moved record has
-  at-second : stageOf (s .control .mv .stage) ≡ secondBarrier → workingSteps l ≡ 2 + n
-  at-second e = omega (arith, work-at m secondBarrier e, count-at s g I secondBarrier e, moved-words secondBarrier e tt)
+  moved-words : (b : Stage) → stageOf (s .control .mv .stage) ≡ b → T (inHand b)
+      → words (said l .kind (s .control .mv .meter)) ≡ movedWords l
+  moved-words b e i = ap (λ (k : ℕ). words (said l .kind k)) (meter-at m b e i)
 
-  at-third : stageOf (s .control .mv .stage) ≡ thirdBarrier → workingSteps l ≡ 3 + n
-  at-third e = omega (arith, work-at m thirdBarrier e, count-at s g I thirdBarrier e, moved-words thirdBarrier e tt)
+  at-second : stageOf (s .control .mv .stage) ≡ secondBarrier → workingSteps l ≡ 2 + movedWords l
+  at-second e = omega (arith, work-at m secondBarrier e, count-at s (said l) I secondBarrier e, moved-words secondBarrier e tt)
 
-  kept-worked : {s′ : State} {t : Step} {x : Answer} → Kept s t x s′ → Worked (number x) n (workingSteps (line t x ∷ l))
-  kept-worked (admits _ _ _ _) = unworked 20 n _ (omega arith) (omega arith)
-  kept-worked (retires _ _) = unworked 30 n _ (omega arith) (omega arith)
-  kept-worked (begins _ _ _ _ _) = unworked 21 n _ (omega arith) (omega arith)
-  kept-worked (starts _ _) = unworked 23 n _ (omega arith) (omega arith)
-  kept-worked (copies _ _ _) = unworked 24 n _ (omega arith) (omega arith)
-  kept-worked (fills _ _ _) = unworked 24 n _ (omega arith) (omega arith)
-  kept-worked (commits _ _) = unworked 25 n _ (omega arith) (omega arith)
-  kept-worked (calls-off e _ _) = omega (arith, at-second e)
-  kept-worked (gives-back e) = omega (arith, at-third e)
+  at-third : stageOf (s .control .mv .stage) ≡ thirdBarrier → workingSteps l ≡ 3 + movedWords l
+  at-third e = omega (arith, work-at m thirdBarrier e, count-at s (said l) I thirdBarrier e, moved-words thirdBarrier e tt)
 
-  did-worked : {Right : Answer → Type 0} {t : Step} {o : Outcome} → Did Right s t o
-      → Worked (number (o .answer)) n (workingSteps (line t (o .answer) ∷ l))
-  did-worked (refuses {n = k} b) = unworked k n _ (omega arith) (omega arith)
-  did-worked (stays _) = unworked 22 n _ (omega arith) (omega arith)
-  did-worked (keeps _ _ _ _ k) = kept-worked k
-  did-worked (acts {x = x} _ _ b _ _) = unworked (number x) n _ (omega arith) (omega arith)
+  kept-priced : {s′ : State} {t : Step} {x : Answer} → Kept s t x s′ → MovePrice (line t x) l
+  kept-priced (admits _ _ _ _) = unpriced _ l (omega arith) (omega arith)
+  kept-priced (retires _ _) = unpriced _ l (omega arith) (omega arith)
+  kept-priced (begins _ _ _ _ _) = unpriced _ l (omega arith) (omega arith)
+  kept-priced (starts _ _) = unpriced _ l (omega arith) (omega arith)
+  kept-priced (copies _ _ _) = unpriced _ l (omega arith) (omega arith)
+  kept-priced (fills _ _ _) = unpriced _ l (omega arith) (omega arith)
+  kept-priced (commits _ _) = unpriced _ l (omega arith) (omega arith)
+  kept-priced (calls-off e _ _) = record { called-off = λ _. omega (arith, at-second e); given-back = λ z. absurd (omega arith) }
+  kept-priced (gives-back e) = record { called-off = λ z. absurd (omega arith); given-back = λ _. omega (arith, at-third e) }
 
-ended : (l : List Step) (t : Step)
-    → Worked (number (act (after l) t .answer)) (words (said (log l) .kind (lastMoved (log l)))) (workingSteps (log (t ∷ l)))
-ended l t = did-worked (always {X = ⊥} l) (told l) (did (after l) (said (log l)) t (always {X = ⊥} l))
+  did-priced : {Right : Answer → Type 0} {t : Step} {o : Outcome} → Did Right s t o → MovePrice (line t (o .answer)) l
+  did-priced (refuses b) = unpriced _ l (omega arith) (omega arith)
+  did-priced (stays _) = unpriced _ l (omega arith) (omega arith)
+  did-priced (keeps _ _ _ _ k) = kept-priced k
+  did-priced (acts _ _ b _ _) = unpriced _ l (omega arith) (omega arith)
 
-pub call-off-takes : (l : List Step) (t : Step) → number (act (after l) t .answer) ≡ 26
-    → workingSteps (log (t ∷ l)) ≡ words (said (log l) .kind (lastMoved (log l))) + 3
-call-off-takes l t = ended l t .0
-
-pub give-back-takes : (l : List Step) (t : Step) → number (act (after l) t .answer) ≡ 27
-    → workingSteps (log (t ∷ l)) ≡ words (said (log l) .kind (lastMoved (log l))) + 4
-give-back-takes l t = ended l t .1
+pub move-price : (l : List Step) (t : Step) → MovePrice (line t (act (after l) t .answer)) (log l)
+move-price l t = did-priced (always {X = Unit {0}} l) (moves-told l) (did-after l t)

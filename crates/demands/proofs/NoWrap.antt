@@ -11,9 +11,9 @@ use Rattle.model.specs.Steps.{Step}
 use Rattle.model.proofs.Readings.{sound-of}
 use Rattle.demands.specs.Promises.{NoneFalls, NoCountWraps}
 use Rattle.demands.proofs.Lists.{set-cases}
-use Rattle.demands.proofs.Did.{Did, refuses, stays, keeps, acts, did}
+use Rattle.demands.proofs.Did.{Did, refuses, stays, keeps, acts, did, same-row}
 use Rattle.demands.proofs.Counted.{did-counted}
-use Rattle.demands.proofs.SwapCounts.{same-swaps, turn-swaps}
+use Rattle.demands.proofs.SwapCounts.{turn-swaps}
 use Rattle.demands.proofs.FromRules.{accountOf, inv-of}
 
 -- a row's swaps: only its own GO changes them
@@ -21,7 +21,7 @@ no-swaps-fall : {Right : Answer → Type 0} {s : State} {t : Step} {o : Outcome}
     → (i : ℕ) → getD (s .table) i freshRow .swaps ≤ getD (o .next .table) i freshRow .swaps
 no-swaps-fall e (refuses _) i = omega arith
 no-swaps-fall e (stays _) i = omega arith
-no-swaps-fall e (keeps _ _ _ r _) i = let z = same-swaps r i in omega arith
+no-swaps-fall e (keeps _ _ _ r _) i = let z = same-row r i .swaps in omega arith
 no-swaps-fall {s = s} {t = t} e (acts {r = r} p q _ _ u) i =
     set-cases (λ j (y : Row). getD (s .table) j freshRow .swaps ≤ y .swaps) (s .table) (pred (t .who)) r freshRow (omega arith)
     (let w = turn-swaps u in omega arith) (λ j n. omega arith) i

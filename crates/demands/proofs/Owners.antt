@@ -1,9 +1,9 @@
 -- Who owns a cell: a function, so that no cell lies in two blocks. A meter owns its record's cells; `other` owns the move's other
 -- block; `none` is nobody. The map's bit of a cell says whether somebody owns it. Assumes nothing.
-use mathlib.Core.Path.{_≡_, refl, sym, ap, _∙_}
+use mathlib.Core.Path.{_≡_, refl, sym, _∙_}
 use mathlib.Core.Logic.{_≢_, inl, inr, ⊎-elim}
 use mathlib.Core.List.{List}
-use Prim.Native.Nat.{ℕ, _+_, _-_, _≤_, _<_}
+use Prim.Native.Nat.{ℕ, _+_, _≤_, _<_}
 use native.Mathlib.Omega.{arith}
 use lib.Dec.{eqb, ltb, leb}
 use borrow.Author.Tests.{eqb-true, eqb-false, ne-eqb, leb-true, leb-false, ltb-true, ltb-false}
@@ -22,6 +22,9 @@ Owns own i c n = (x : ℕ) → c ≤ x → x < c + n → own x ≡ i
 -- 1 for an owner, 0 for nobody
 abbrev pub bitOf : ℕ → ℕ
 bitOf i = pick (eqb i none) 0 1
+
+pub owner-bit : (i : ℕ) → i ≢ none → 1 ≡ bitOf i
+owner-bit i n = rw (ne-eqb i none n) refl
 
 abbrev pub Mapped : (ℕ → ℕ) → List ℕ → Type 0
 Mapped own map = (x : ℕ) → x < 1024 → used map x ≡ bitOf (own x)
@@ -47,12 +50,11 @@ pub owns-keep : (own : ℕ → ℕ) (c n j i d m : ℕ) → ((x : ℕ) → c ≤
 owns-keep own c n j i d m h o x a b = repaint-cases (λ (k : ℕ). k ≡ i) own c n j x (λ p q. absurd (h x p q (o x a b))) (λ _. o x a b)
 
 -- the map and the owners when a run is taken, b = 1, or given back, b = 0
-pub mapped-run : (own : ℕ → ℕ) (map : List ℕ) (c n i b : ℕ) → IsMap map → c + n ≤ 1024 → b < 2 → bitOf i ≡ b → Mapped own map
+pub mapped-run : (own : ℕ → ℕ) (map : List ℕ) (c n i b : ℕ) → IsMap map → b < 2 → bitOf i ≡ b → Mapped own map
     → Mapped (repaint own c n i) (putRun map c n b)
-mapped-run own map c n i b m fits small e h x lt =
+mapped-run own map c n i b m small e h x lt =
     repaint-cases (λ (j : ℕ). used (putRun map c n b) x ≡ bitOf j) own c n i x
-    (λ p q. let z : c + (x - c) ≡ x = omega arith in
-    ap (used (putRun map c n b)) (sym z) ∙ used-run map c n b (x - c) m fits small (omega arith) ∙ sym e)
+    (λ p q. used-run map c n b x m small p q lt ∙ sym e)
     (λ o. used-run-other map c n b x small
     (⊎-elim inl (λ (p : c ≤ x). inr (⊎-elim (λ q. absurd (o p q)) (λ q. q) (order x (c + n)))) (order x c)) ∙ h x lt)
 

@@ -1,23 +1,18 @@
--- The promises are kept. The history by the library's step is the log by `act`, since every state reached is sound; each promise is then
--- a theorem over the log, line by line. Assumes nothing.
-use mathlib.Core.Path.{_≡_, refl, sym, ap, _∙_, subst}
-use mathlib.Core.Bool.{true, false}
+-- The demands are met. The history by the library's step is the log by `act`, since every state reached is sound; each promise of a
+-- history is then a theorem over the log, line by line. The promises of every sound state are kept by `Kept.sound-kept`,
+-- `NoWrap.no-count-wraps` and `Runs.run-is-steps`. Assumes nothing.
+use mathlib.Core.Path.{_≡_, refl, ap, _∙_}
 use mathlib.Core.List.{List, [], _∷_}
-use Prim.Native.Nat.{ℕ}
-use native.Mathlib.Omega.{arith}
-use Rattle.model.specs.declared.Access.{Access}
-use Rattle.model.specs.declared.Access.the-variants.{Read, Write}
-use Rattle.model.specs.Rows.{isWrite, wordOf}
-use Rattle.model.specs.State.{State, Outcome, value}
+use Rattle.model.specs.State.{State, Outcome}
 use Rattle.model.specs.Steps.{Step, act, stepCall}
-use Rattle.model.proofs.Choice.{clash}
-use Rattle.demands.specs.Log.{Line, line, Log, Program, reachedBy, historyBy, after, log, Pending, accessTo, Account, said}
-use Rattle.demands.specs.Promises.{reached, history, EachLine, LastWrite, ReadRight, AccessPrice, MovePrice, Demand2, Demand3}
-use Rattle.demands.specs.Promises.{SoundKept, ReachedSound, RunIsSteps}
-use Rattle.demands.proofs.Kept.{sound-kept, after-sound}
-use Rattle.demands.proofs.Runs.{step-after, run-is-steps}
-use Rattle.demands.proofs.LastWritten.{access-finished}
-use Rattle.demands.proofs.MoveCounts.{begun-is-answered, committed-is-answered, aborted-is-answered, call-off-takes, give-back-takes}
+use Rattle.demands.specs.Log.{Line, line, Log, Program, reachedBy, historyBy, after, log}
+use Rattle.demands.specs.Promises.{reached, history, EachLine, ReadRight, WriteRight, AccessPrice, MovePrice, Demand1, Demand2}
+use Rattle.demands.specs.Promises.{Demand3, ReachedSound}
+use Rattle.demands.proofs.Kept.{after-sound}
+use Rattle.demands.proofs.Runs.{step-after}
+use Rattle.demands.proofs.Requests.{fresh-request, audit-request, fill-request, step-request, run-request}
+use Rattle.demands.proofs.LastWritten.{read-right, write-right}
+use Rattle.demands.proofs.MoveCounts.{begun-is-answered, committed-is-answered, aborted-is-answered, move-price}
 use Rattle.demands.proofs.SwapCounts.{swaps-are-answered, slot-swaps-at-most-begun, all-swaps-at-most-begun}
 use Rattle.demands.proofs.SwapCounts.{called-off-at-most-swaps}
 use Rattle.demands.proofs.Accesses.{access-heard}
@@ -53,24 +48,16 @@ each-line P h l = rw (history-is l) (by l)
     by [] = tt
     by (t ∷ l) = (h l t, by l)
 
+-- Demand 1
+pub demand1 : Demand1
+demand1 s =
+    record { fresh = fresh-request s; audit = audit-request s; fill = fill-request s; step = step-request s; run = run-request s }
+
 -- Demand 2
-last-write : (g : Account) (m : ℕ) (x : Access) (v : ℕ) → isWrite x ≡ false → v ≡ g .lastWritten m (wordOf x) → LastWrite g (accessTo m x) v
-last-write g m (Read h w) v r e = e
-last-write g m (Write h w y) v r e = clash true refl r
-
-read-right : (l : List Step) (t : Step) → ReadRight (line t (act (after l) t .answer)) (log l)
-read-right l t e =
-    let F = access-finished l t (omega arith) in
-    subst (λ (p : Pending). LastWrite (said (log l)) p (value (act (after l) t .answer))) (sym (F .pending))
-    (last-write (said (log l)) (F .meter) (F .access) (value (act (after l) t .answer)) (F .writes ∙ rw e refl) (F .last tt e))
-
 pub demand2 : Demand2
-demand2 = each-line ReadRight read-right
+demand2 l = (each-line ReadRight read-right l, each-line WriteRight write-right l)
 
 -- Demand 3
-move-price : (l : List Step) (t : Step) → MovePrice (line t (act (after l) t .answer)) (log l)
-move-price l t = record { called-off = call-off-takes l t; given-back = give-back-takes l t }
-
 pub demand3 : Demand3
 demand3 l = (
   record {
@@ -88,12 +75,6 @@ demand3 l = (
       }),
 )
 
--- soundness, and the run
-pub sound-is-kept : SoundKept
-sound-is-kept = sound-kept
-
+-- soundness
 pub reached-sound : ReachedSound
 reached-sound l = rw (reached-is l) (after-sound l)
-
-pub run-equals-steps : RunIsSteps
-run-equals-steps = run-is-steps

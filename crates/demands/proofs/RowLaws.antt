@@ -5,7 +5,6 @@ use mathlib.Core.Bool.{Bool, true, false, not}
 use mathlib.Core.List.{List}
 use Prim.Native.Nat.{ℕ, pred, _≤_, _<_}
 use native.Mathlib.Omega.{arith}
-use lib.Dec.{T}
 use lib.ListN.{length, getD, set, length-set, List·getD-map}
 use lib.Seq.{getD-set-other}
 use Rattle.model.specs.declared.Access.{Access}
@@ -13,17 +12,18 @@ use Rattle.model.specs.declared.Phase.{Phase}
 use Rattle.model.specs.declared.Phase.the-variants.{Resting, Ready}
 use Rattle.model.specs.declared.Row.{Row}
 use Rattle.model.specs.declared.Move.{Move}
-use Rattle.model.specs.Choice.{one}
 use Rattle.model.specs.Arena.{none, header}
 use Rattle.model.specs.Rows.{holdOf, busy, hold, freshRow, withPassed, cleared, clearMarks, hasPassed, allPassed}
 use Rattle.model.specs.State.{entry, State, withTable, withRow}
 use Rattle.model.specs.Steps.{Step, ownRow}
 use Rattle.model.proofs.Choice.{clash}
+use Rattle.model.proofs.Says.{all-test}
+use Rattle.model.proofs.Readings.{Flag, FlagUp}
 use Rattle.demands.specs.Log.{noAccess, Client, Account, newClient, clientOf, withClient}
-use Rattle.demands.proofs.Lists.{set-cases, set-both, all-get}
+use Rattle.demands.proofs.Lists.{set-cases, set-both}
 use Rattle.demands.proofs.Blocks.{side-lt}
-use Rattle.demands.proofs.Inv.{Flag, HoldOK, empty, here, was, Place, at-entry, at-hold, Asked, ReadyOK, WaitingOK, PhaseOK, rests}
-use Rattle.demands.proofs.Inv.{ready, waits, Detached, RowOK, late, Rows, Inv}
+use Rattle.demands.proofs.Inv.{HoldOK, empty, here, was, Place, at-entry, at-hold, Asked, ReadyOK, WaitingOK, PhaseOK, rests, ready}
+use Rattle.demands.proofs.Inv.{waits, Detached, RowOK, late, Rows, Inv}
 
 -- what the invariant says, in state s, of row r and client q, and of the phase of the row whose step it is
 abbrev pub oldHeader : State → ℕ
@@ -40,14 +40,6 @@ ReadyIn X s g t c x = ReadyOK X (s .control .dir) (s .control .mv) (g .kind) (ol
 
 abbrev pub WaitingIn : State → Account → Step → ℕ → Access → Type 0
 WaitingIn s g t c x = WaitingOK (s .control .mv) (g .kind) (oldHeader s) (s .control .begun) (ownRow s t) (clientOf g t) c x
-
-pub one-early : (b : Bool) → T b → one b ≡ 1
-one-early true t = refl
-one-early false t = absurd t
-
-pub one-not : (b : Bool) → (T b → ⊥) → one b ≡ 0
-one-not true n = absurd (n tt)
-one-not false n = refl
 
 module _ {X : Type 0} {dir : List ℕ} {v : Move} {kind : ℕ → ℕ} {h begun : ℕ} {r : Row} {q : Client} where
   -- a row that is not busy rests, in the log too
@@ -131,7 +123,7 @@ pub cleared-get : (table : List Row) (i : ℕ) → getD (clearMarks table) i fre
 cleared-get table i = List·getD-map cleared table i freshRow
 
 pub passed-get : (table : List Row) → allPassed table ≡ true → (i : ℕ) → getD table i freshRow .passed ≡ true
-passed-get table e = all-get hasPassed table freshRow e refl
+passed-get table e i = all-test hasPassed table i e refl
 
 module _ {X : Type 0} {s : State} {g : Account} (I : Inv X s g) where
   pub row-in : (t : Step) → RowIn X s g (ownRow s t) (clientOf g t)
@@ -140,7 +132,7 @@ module _ {X : Type 0} {s : State} {g : Account} (I : Inv X s g) where
   -- a row without holds that rests, of a client that has opened nothing
   pub empty-row : (r : Row) → ((i : ℕ) → hold r i ≡ none) → length (r .holds) ≡ 4 → r .passed ≡ true → r .phase ≡ Resting
       → r .swaps ≤ s .control .begun
-      → (Flag (s .control .mv) (header (s .arena) (s .control .mv .from)) → r .swaps < s .control .begun) → RowIn X s g r newClient
+      → (FlagUp (s .control .mv) (s .arena) → r .swaps < s .control .begun) → RowIn X s g r newClient
   empty-row r n f p e le lt = record {
     four = f;
     holds = λ i. empty (n i);

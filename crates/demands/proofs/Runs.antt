@@ -12,6 +12,7 @@ use Rattle.model.specs.Rules.{firstBroken}
 use Rattle.model.proofs.Sizes.{right-size}
 use Rattle.model.proofs.Calls.{step-sound, run-sound, run-unsound}
 use Rattle.demands.specs.Log.{after}
+use Rattle.demands.specs.Promises.{RunIsSteps}
 use Rattle.demands.proofs.Kept.{sound-kept, sizes-kept, after-sound, after-sizes}
 
 -- on a sound state a step is what `act` does
@@ -42,8 +43,7 @@ steps-are-acts (t ∷ l) s Z e =
     ∙ ap (then (act s t)) (steps-are-acts l (act s t .next) (sizes-kept s t Z e) (sound-kept s t Z e))
 
 -- "checks soundness once and equals the steps one by one"
-pub run-is-steps : (s : State) (ws slots : List ℕ) → Sizes s → runSizes ws slots ≡ true → firstBroken s ≡ 0
-    → runCall s ws slots ≡ oneByOne stepCall s (stepsOf ws)
+pub run-is-steps : RunIsSteps
 run-is-steps s ws slots Z q e = run-acts s ws slots Z q e ∙ sym (steps-are-acts (stepsOf ws) s Z e)
 
 -- from fresh every step is what `act` does

@@ -7,9 +7,11 @@ use Prim.Native.Nat.{ℕ, zero, suc}
 use lib.Dec.{T}
 use lib.ListN.{getD}
 use Rattle.model.specs.declared.Move.{Move}
-use Rattle.model.specs.Choice.{_and_, _⇒_, all}
+use Rattle.model.specs.Choice.{_⇒_, all}
 use Rattle.model.specs.State.{Stage, idle, firstBarrier, copying, secondBarrier, thirdBarrier, stageOf, inHand}
 use Rattle.model.specs.Rules.{early, late}
+use Rattle.model.proofs.Choice.{both-hold}
+use Rattle.model.proofs.Readings.{Early, Late}
 
 abbrev pub first : Stage → Bool
 first idle = false
@@ -21,30 +23,20 @@ first thirdBarrier = false
 abbrev pub never : Stage → Bool
 never g = false
 
--- of a move: none in hand; at the first barrier; in its first three stages; at the third barrier
+-- of a move: none in hand; at the first barrier
 abbrev pub Idle : Move → Type 0
 Idle v = T (not (inHand (stageOf (v .stage))))
 
 abbrev pub First : Move → Type 0
 First v = T (first (stageOf (v .stage)))
 
-abbrev pub Early : Move → Type 0
-Early v = T (early (stageOf (v .stage)))
-
-abbrev pub Late : Move → Type 0
-Late v = T (late (stageOf (v .stage)))
-
 abbrev stages : List Stage
 stages = idle ∷ firstBarrier ∷ copying ∷ secondBarrier ∷ thirdBarrier ∷ []
 
-both : (a b : Bool) → T (a and b) → T a × T b
-both true b u = (tt, u)
-both false b u = absurd u
-
 all-stages : (f : Stage → Bool) (l : List Stage) → T (all f l) → (n : ℕ) (d : Stage) → T (f d) → T (f (getD l n d))
 all-stages f [] t n d u = u
-all-stages f (x ∷ l) t zero d u = both (f x) (all f l) t .0
-all-stages f (x ∷ l) t (suc n) d u = all-stages f l (both (f x) (all f l) t .1) n d u
+all-stages f (x ∷ l) t zero d u = both-hold (f x) (all f l) t .0
+all-stages f (x ∷ l) t (suc n) d u = all-stages f l (both-hold (f x) (all f l) t .1) n d u
 
 follows : (p q r : Bool) → T (p ⇒ q ⇒ r) → T p → T q → T r
 follows true true r t a b = t
@@ -56,7 +48,7 @@ pub at-stage : (p q r : Stage → Bool) → T (all (λ g. p g ⇒ q g ⇒ r g) s
     → T (r (stageOf n))
 at-stage p q r t n =
     follows (p (stageOf n)) (q (stageOf n)) (r (stageOf n))
-    (all-stages (λ g. p g ⇒ q g ⇒ r g) stages t n idle (both (p idle ⇒ q idle ⇒ r idle) _ t .0))
+    (all-stages (λ g. p g ⇒ q g ⇒ r g) stages t n idle (both-hold (p idle ⇒ q idle ⇒ r idle) _ t .0))
 
 pub not-both : (v : Move) → Early v → Late v → ⊥
 not-both v = at-stage early late never tt (v .stage)

@@ -16,15 +16,16 @@ use Rattle.model.specs.Arena.{flagged}
 use Rattle.model.specs.Rows.{swapsOf, freshRow, clearMarks}
 use Rattle.model.specs.State.{State, number, Outcome}
 use Rattle.model.specs.Steps.{Step}
-use Rattle.model.proofs.Choice.{same-or-not}
+use Rattle.model.proofs.Choice.{same-or-not, and-no}
 use Rattle.model.proofs.Says.{getD-fresh}
-use Rattle.demands.specs.Log.{line, Log, after, log, said, answered, answeredTo}
-use Rattle.demands.proofs.Stages.{Early}
-use Rattle.demands.proofs.Lists.{set-cases, and-false}
-use Rattle.demands.proofs.RowLaws.{oldHeader, cleared-get}
+use Rattle.model.proofs.Readings.{Early}
+use Rattle.demands.specs.Log.{line, Log, after, log, answered, answeredTo}
+use Rattle.demands.proofs.Lists.{set-cases}
+use Rattle.demands.proofs.RowLaws.{oldHeader}
 use Rattle.demands.proofs.Did.{Turn, handles, readies, waits-on, swaps, ends, SameRows, same, cleared, Did, refuses, stays, keeps}
-use Rattle.demands.proofs.Did.{acts, Kept, admits, retires, begins, starts, copies, fills, commits, calls-off, gives-back, did}
-use Rattle.demands.proofs.Always.{always}
+use Rattle.demands.proofs.Did.{acts, Kept, admits, retires, begins, starts, copies, fills, commits, calls-off, gives-back, same-row}
+use Rattle.demands.proofs.Did.{did-after}
+use Rattle.demands.proofs.Always.{always, eight-after}
 use Rattle.demands.proofs.Counted.{hits}
 use Rattle.demands.proofs.MoveCounts.{begun-is-answered, aborted-is-answered}
 
@@ -46,10 +47,6 @@ same-total : {k k′ : List Row} → SameRows k k′ → total swapsOf k′ ≡ 
 same-total same = refl
 same-total {k} cleared = total-cleared k
 
-pub same-swaps : {k k′ : List Row} → SameRows k k′ → (i : ℕ) → getD k′ i freshRow .swaps ≡ getD k i freshRow .swaps
-same-swaps same i = refl
-same-swaps {k} cleared i = ap swapsOf (cleared-get k i)
-
 pub turn-swaps : {Right : Answer → Type 0} {r r′ : Row} {x : Answer} → Turn Right r x r′ → r′ .swaps ≡ r .swaps + hits 33 x
 turn-swaps {x = x} (handles e f _) = rw (ne-eqb (number x) 33 (omega arith)) (omega arith)
 turn-swaps {x = x} (readies e f _) = rw (ne-eqb (number x) 33 (omega arith)) (omega arith)
@@ -64,7 +61,7 @@ record SwapsTold (k : List Row) (l : Log) : Type 0 where
 unswapped : {k k′ : List Row} {l : Log} (t : Step) (x : Answer) → SameRows k k′ → number x ≢ 33 → SwapsTold k l
     → SwapsTold k′ (line t x ∷ l)
 unswapped {l = l} t x r n m = record {
-  slots = λ i. same-swaps r i ∙ m .slots i ∙ sym (rw (ne-eqb (number x) 33 n, and-false (eqb (t .who) (suc i))) (omega arith));
+  slots = λ i. same-row r i .swaps ∙ m .slots i ∙ sym (rw (ne-eqb (number x) 33 n, and-no (eqb (t .who) (suc i))) (omega arith));
   sum = same-total r ∙ m .sum ∙ sym (rw (ne-eqb (number x) 33 n) (omega arith));
 }
 
@@ -81,9 +78,9 @@ did-told {s = s} {t = t} {l = l} e (acts {x = x} {r = r} p q _ _ u) m = record {
   sum = let z = total-set (s .table) (pred (t .who)) r freshRow (omega arith) in omega (arith, turn-swaps u, m .sum);
 }
 
-told : (l : List Step) → SwapsTold (after l .table) (log l)
-told [] = record { slots = λ i. ap swapsOf (getD-fresh 8 i freshRow); sum = refl }
-told (t ∷ l) = let I = always {X = ⊥} l in did-told (I .eight) (did (after l) (said (log l)) t I) (told l)
+swaps-told : (l : List Step) → SwapsTold (after l .table) (log l)
+swaps-told [] = record { slots = λ i. ap swapsOf (getD-fresh 8 i freshRow); sum = refl }
+swaps-told (t ∷ l) = did-told (eight-after l) (did-after l t) (swaps-told l)
 
 -- a flag that is gone from a move's header was swapped away
 record Swapped (s : State) : Type 0 where
@@ -118,14 +115,14 @@ did-swapped {s = s} {t = t} e (acts {x = x} {r = r} p q _ h u) m =
 
 swapped-away : (l : List Step) → Swapped (after l)
 swapped-away [] = record { off = omega arith; gone = λ z. absurd z }
-swapped-away (t ∷ l) = let I = always {X = ⊥} l in did-swapped (I .eight) (did (after l) (said (log l)) t I) (swapped-away l)
+swapped-away (t ∷ l) = did-swapped (eight-after l) (did-after l t) (swapped-away l)
 
 -- the swaps of a slot, and of all, as the log counts them
 pub swaps-are-answered : (l : List Step) (i : ℕ) → getD (after l .table) i freshRow .swaps ≡ answeredTo (suc i) 33 (log l)
-swaps-are-answered l = told l .slots
+swaps-are-answered l = swaps-told l .slots
 
 pub all-swaps-are-answered : (l : List Step) → total swapsOf (after l .table) ≡ answered 33 (log l)
-all-swaps-are-answered l = told l .sum
+all-swaps-are-answered l = swaps-told l .sum
 
 -- a client swaps at most once for each move begun, all eight at most eight times, and no move is called off without a swap
 pub slot-swaps-at-most-begun : (l : List Step) (i : ℕ) → answeredTo (suc i) 33 (log l) ≤ answered 21 (log l)
@@ -134,7 +131,7 @@ slot-swaps-at-most-begun l i = omega (arith, swaps-are-answered l i, begun-is-an
 pub all-swaps-at-most-begun : (l : List Step) → answered 33 (log l) ≤ 8 * answered 21 (log l)
 all-swaps-at-most-begun l =
     let b = total-le (after l .table) (after l .control .begun) (λ i. always {X = ⊥} l .rows i .le) in
-    omega (arith, rw (always {X = ⊥} l .eight) at b, told l .sum, begun-is-answered l)
+    omega (arith, rw (eight-after l) at b, swaps-told l .sum, begun-is-answered l)
 
 pub called-off-at-most-swaps : (l : List Step) → answered 26 (log l) ≤ answered 33 (log l)
-called-off-at-most-swaps l = omega (arith, swapped-away l .off, told l .sum, aborted-is-answered l)
+called-off-at-most-swaps l = omega (arith, swapped-away l .off, swaps-told l .sum, aborted-is-answered l)

@@ -19,11 +19,12 @@ use Rattle.model.specs.ClientSteps.{swapped, swap}
 use Rattle.model.specs.Steps.{Step, GO, ownRow, seated}
 use Rattle.model.proofs.Choice.{by-test, clash}
 use Rattle.model.proofs.Counts.{rise-is}
-use Rattle.demands.specs.Log.{Account, clientOf, told}
-use Rattle.demands.proofs.Stages.{Early, not-both}
+use Rattle.model.proofs.Readings.{Flag, FlagUp, own-header, Early}
+use Rattle.demands.specs.Log.{Account, clientOf, saidBy}
+use Rattle.demands.proofs.Stages.{not-both}
 use Rattle.demands.proofs.Lists.{set-cases}
 use Rattle.demands.proofs.Owners.{other}
-use Rattle.demands.proofs.Inv.{Flag, at-entry, ready, RowOK, own-head, early, Core, Inv}
+use Rattle.demands.proofs.Inv.{at-entry, ready, RowOK, early, Core, Inv}
 use Rattle.demands.proofs.Blocks.{Cell, unflagged, flagged-cell, cell, home-lt, home-real}
 use Rattle.demands.proofs.Entries.{stored-head, stored-else, stored-entry}
 use Rattle.demands.proofs.RowLaws.{oldHeader, WaitingIn, RowIn, reflag-row, row-in, reseat-row}
@@ -31,11 +32,11 @@ use Rattle.demands.proofs.RowLaws.{oldHeader, WaitingIn, RowIn, reflag-
 -- the flag goes from the moved record's header
 module _ {X : Type 0} {dir map : List ℕ} {v : Move} {arena : List ℕ} {val : ℕ → ℕ → ℕ} {kind own : ℕ → ℕ}
     (C : Core X dir map v arena val kind own) (l : Early v) where
-  pub no-flag : Flag v (header (set arena (place (v .from) 0) (plain (v .from))) (v .from)) → ⊥
+  pub no-flag : FlagUp v (set arena (place (v .from) 0) (plain (v .from))) → ⊥
   no-flag f = let S = C .sides (early l) in omega (arith, f .1, stored-head C (v .meter) (v .from) (S .home) (S .inside) (plain (v .from)))
 
-  pub called-off : Core X dir map v (set arena (place (v .from) 0) (plain (v .from))) val kind own
-  called-off =
+  pub unflagged-core : Core X dir map v (set arena (place (v .from) 0) (plain (v .from))) val kind own
+  unflagged-core =
       let S = C .sides (early l) in
       let z = home-real C (early l) in
       let same : (j : ℕ) → j < 8 * cells (kind (v .meter))
@@ -48,7 +49,7 @@ module _ {X : Type 0} {dir map : List ℕ} {v : Move} {arena : List ℕ} {val : 
         words8192 = length-set arena (place (v .from) 0) (plain (v .from)) ∙ C .words8192;
         is-map = C .is-map;
         entries = λ m n. stored-entry C (v .meter) (v .from) (S .home) (S .inside) (plain (v .from)) m n (C .entries m n .owns)
-            (λ _. own-head refl) (λ _ k. k);
+            (λ _. own-header refl) (λ _ k. k);
         mapped = C .mapped;
         owned = C .owned;
         idle = C .idle;
@@ -83,7 +84,7 @@ module _ {X : Type 0} (s : State) (g : Account) (t : Step) (I : Inv X s g) (seat
       }
 
   abbrev Next : Stepped → Type 0
-  Next o = Inv X (seated s t o .next) (told GO g t (o .answer))
+  Next o = Inv X (seated s t o .next) (saidBy GO g t (o .answer))
 
   by-cell : Cell (s .control .dir) (s .control .mv) (s .arena) c (clientOf g t .opened (holdOf x)) → Next (swap (s .arena) (ownRow s t) c x)
   unfolding swap
@@ -97,7 +98,7 @@ module _ {X : Type 0} (s : State) (g : Account) (t : Step) (I : Inv X s g) (seat
       by-test Next (eqb (header (s .arena) c) (flagged c))
       (λ _. rw o (record {
         own = I .own;
-        core = called-off (I .core) l;
+        core = unflagged-core (I .core) l;
         eight = length-set (s .table) (pred (t .who)) _ ∙ I .eight;
         r7 = I .r7;
         small = I .small;

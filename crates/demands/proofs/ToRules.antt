@@ -1,36 +1,32 @@
 -- The invariant gives R1 to R8 back. Assumes nothing.
 use mathlib.Core.Path.{_≡_, refl, sym, ap, _∙_, subst⁻¹}
 use mathlib.Core.Logic.{_≢_, _⊎_, inl, inr, ⊎-elim}
-use mathlib.Core.Bool.{true, false, not}
+use mathlib.Core.Bool.{false, not, true}
 use mathlib.Core.List.{List, [], _∷_}
 use Prim.Native.Nat.{ℕ, _+_, _≤_, _<_}
 use native.Mathlib.Omega.{arith}
-use lib.Dec.{T, eqb}
-use borrow.Author.Tests.{eqb-true, eqb-false}
+use lib.Dec.{T}
 use lib.ListN.{getD, List·getD-eq-default}
 use Rattle.model.specs.declared.Access.{Access}
 use Rattle.model.specs.declared.Phase.{Phase}
 use Rattle.model.specs.declared.Row.{Row}
 use Rattle.model.specs.declared.Move.{Move}
-use Rattle.model.specs.Choice.{total}
-use Rattle.model.specs.Arena.{cells, words, none, header, targetOf, label, cellsAt, wordsAt}
+use Rattle.model.specs.Arena.{cells, words, none, header, targetOf, label, cellsAt, wordsAt, used}
 use Rattle.model.specs.Rows.{holdOf, hold, freshRow, FourHolds}
 use Rattle.model.specs.State.{Stage, idle, firstBarrier, copying, secondBarrier, thirdBarrier, stageOf, inHand, noMove, entry, State, Sizes}
-use Rattle.model.specs.Rules.{early as early-stage, late as late-stage, covers, recordCovers, flagUp}
-use Rattle.model.proofs.Choice.{by-test, clash, order}
+use Rattle.model.specs.Rules.{covers, flagUp}
+use Rattle.model.proofs.Choice.{clash, order}
 use Rattle.model.proofs.Says.{says-eq, says-not, at-all}
-use Rattle.model.proofs.Readings.{RecordsRight, MoveRight, CellsRight, HeadersRight, HeaderRight, own-header, flag-header, NumbersAt}
-use Rattle.model.proofs.Readings.{HoldRight, hold-empty, hold-present, hold-old, AccessRight, PhaseRight, RowRight, SwapsAt, Owing, owed-le}
-use Rattle.model.proofs.Readings.{says-flag, Sound}
-use Rattle.model.proofs.Covers.{total-zero, total-one, covers-in, covers-out, record-in, record-out, otherOver, other-early, other-late}
-use Rattle.model.proofs.Covers.{other-by, blocks-are}
+use Rattle.model.proofs.Readings.{RecordsRight, MoveRight, CellsRight, HeadersRight, NumbersAt, HoldRight, hold-empty, hold-present}
+use Rattle.model.proofs.Readings.{hold-old, AccessRight, PhaseRight, RowRight, SwapsAt, Owing, owed-le, says-flag, Sound}
+use Rattle.model.proofs.Covers.{covers-in, otherOver, other-early, other-late, other-by, Over, covers-is}
+use Rattle.model.proofs.Wording.{InBlock, in-record, in-other as other-block, words-in-cells}
 use Rattle.demands.specs.Log.{Client, Account}
-use Rattle.demands.proofs.Lists.{getD-in}
-use Rattle.demands.proofs.Owners.{other}
-use Rattle.demands.proofs.Inv.{Flag, HoldOK, empty, here, was, Place, at-entry, at-hold, Asked, PhaseOK, rests, ready, waits, RowOK}
-use Rattle.demands.proofs.Inv.{HeadOK, own-head, flag-head, Sides, early, late, Block, in-entry, in-other, Count, Core, Inv}
+use Rattle.demands.proofs.Owners.{other, bitOf, owner-bit}
+use Rattle.demands.proofs.Inv.{HoldOK, empty, here, was, Place, at-entry, at-hold, Asked, PhaseOK, rests, ready, waits, RowOK, Sides}
+use Rattle.demands.proofs.Inv.{early, late, Block, in-entry, in-other, Core, Inv}
 use Rattle.demands.proofs.Blocks.{Cell, unflagged, flagged-cell, meter-lt, entry-range, home-in, home-entry, from-kind, held-kind}
-use Rattle.demands.proofs.Blocks.{cell}
+use Rattle.demands.proofs.Blocks.{cell, numbers-same}
 
 -- a number that is no stage counts as none in hand
 stage-lt : (v : Move) → (T (not (inHand (stageOf (v .stage)))) → v ≡ noMove) → v .stage < 5
@@ -41,22 +37,6 @@ stage-lt v f =
     none-in-hand h =
         subst⁻¹ (λ (g : Stage). T (not (inHand g)))
         (List·getD-eq-default (idle ∷ firstBarrier ∷ copying ∷ secondBarrier ∷ thirdBarrier ∷ []) idle h) tt
-
--- R5, with the moved record's words read from its old block
-numbers-of : (v : Move) (z z′ : ℕ) (g : Stage) → (T (early-stage g) → z ≡ z′) → (T (late-stage g) → z ≡ z′)
-    → (T (not (inHand g)) → v ≡ noMove) → Count g z′ (v .copied) → NumbersAt g v z
-numbers-of v z z′ idle a b n c =
-    let e = n tt in
-    record {
-      meter = ap (λ (w : Move). w .meter) e;
-      from = ap (λ (w : Move). w .from) e;
-      target = ap (λ (w : Move). w .target) e;
-      copied = ap (λ (w : Move). w .copied) e;
-    }
-numbers-of v z z′ firstBarrier a b n c = c
-numbers-of v z z′ copying a b n c = let e = a tt in omega arith
-numbers-of v z z′ secondBarrier a b n c = c ∙ sym (a tt)
-numbers-of v z z′ thirdBarrier a b n c = c ∙ sym (b tt)
 
 module _ {X : Type 0} (s : State) (g : Account) (I : Inv X s g) where
   abbrev dir : List ℕ
@@ -109,19 +89,19 @@ module _ {X : Type 0} (s : State) (g : Account) (I : Inv X s g) where
             };
       }
 
-  -- an entry, or the other block, that does not own a cell does not cover it
-  entry-off : (x m : ℕ) → I .own x ≢ m → recordCovers arena x (entry dir m) ≡ 0
-  entry-off x m ne =
-      record-out arena x (entry dir m)
-      (λ o. let k = entry-cells m (o .present) in ne (C .entries m (o .present) .owns x (o .low) (omega (arith, o .high))))
+  -- a record over a cell, or the other block, owns it; and a block that owns a cell lies over it
+  record-own : (x m : ℕ) → Over arena x (entry dir m) → I .own x ≡ m
+  record-own x m o = let k = entry-cells m (o .present) in C .entries m (o .present) .owns x (o .low) (omega (arith, o .high))
 
-  other-off : (x : ℕ) → I .own x ≢ other → otherOver v arena x ≡ 0
-  other-off x ne = other-by v arena x (λ (n : ℕ). n ≡ 0) (λ l. off (early l)) (λ l. off (late l)) (λ _ _. refl)
+  other-own : (x : ℕ) → otherOver v arena x ≡ 1 → I .own x ≡ other
+  other-own x =
+      other-by v arena x (λ (n : ℕ). n ≡ 1 → I .own x ≡ other) (λ l. on (early l)) (λ l. on (late l)) (λ _ _ e. absurd (omega arith))
     where
-      off : {c d : ℕ} → Sides v c d → covers d (cellsAt arena (v .from)) x ≡ 0
-      off {c} {d} b =
+      on : {c d : ℕ} → Sides v c d → covers d (cellsAt arena (v .from)) x ≡ 1 → I .own x ≡ other
+      on {c} {d} b e =
           let k = from-cells b in
-          covers-out d (cellsAt arena (v .from)) x (λ p q. ne (C .sides b .owns x p (omega arith)))
+          let o = covers-is d (cellsAt arena (v .from)) x e in
+          C .sides b .owns x (o .0) (omega (arith, o .1))
 
   other-on : (x : ℕ) {c d : ℕ} → Sides v c d → d ≤ x → x < d + cells (g .kind (v .meter)) → otherOver v arena x ≡ 1
   other-on x (early l) p q =
@@ -129,45 +109,35 @@ module _ {X : Type 0} (s : State) (g : Account) (I : Inv X s g) where
   other-on x (late l) p q =
       let k = from-cells (late l) in other-late v arena x l ∙ covers-in (v .from) (cellsAt arena (v .from)) x p (omega arith)
 
-  -- no entry covers a cell that no meter owns
-  entries-off : (x : ℕ) → ((m : ℕ) → m < 256 → I .own x ≢ m) → total (recordCovers arena x) dir ≡ 0
-  entries-off x f = total-zero (recordCovers arena x) none dir (λ m b. entry-off x m (f m (omega (arith, C .entries256))))
-
-  owned-once : (x : ℕ) {i : ℕ} → I .own x ≡ i → Block dir v (g .kind) x i → total (recordCovers arena x) dir + otherOver v arena x ≡ 1
-  owned-once x {i} e (in-entry n p q) =
+  block-in : {x i : ℕ} → Block dir v (g .kind) x i → InBlock dir v arena x
+  block-in {x} {i} (in-entry n p q) =
       let k = entry-cells i n in
-      let b = meter-lt C i n in
-      let only =
-      total-one (recordCovers arena x) none dir i (omega (arith, C .entries256)) (λ j _ ne. entry-off x j (λ z. ne (sym z ∙ e))) in
-      let here = record-in arena x (entry dir i) (record { present = n; low = p; high = omega arith }) in
-      omega (arith, only, here, other-off x (λ z. omega arith))
-  owned-once x e (in-other b o p q) = omega (arith, entries-off x (λ m h z. omega arith), other-on x b p q)
+      in-record i (omega (arith, meter-lt C i n, C .entries256)) (record { present = n; low = p; high = omega arith })
+  block-in {x} (in-other b e p q) = other-block (other-on x b p q)
 
   rule3 : CellsRight dir (s .control .map) v arena
-  rule3 x b = blocks-are dir v arena x ∙ by-test At (eqb (I .own x) none) nobody somebody ∙ sym (C .mapped x b)
+  rule3 = words-in-cells dir (s .control .map) v arena (λ x h.
+      record {
+        used-only = λ e. block-in (C .owned x (λ z. omega (arith, C .mapped x h, ap bitOf z)));
+        used-all = used-by x h;
+        one-record = λ m n _ _ o q. sym (record-own x m o) ∙ record-own x n q;
+        not-both = λ m b o e. omega (arith, record-own x m o, other-own x e, C .entries256);
+      })
     where
-      At : ℕ → Type 0
-      At n = total (recordCovers arena x) dir + otherOver v arena x ≡ n
+      used-at : (x i : ℕ) → x < 1024 → I .own x ≡ i → i ≢ none → used (s .control .map) x ≡ 1
+      used-at x i h e n = C .mapped x h ∙ ap bitOf e ∙ sym (owner-bit i n)
 
-      nobody : eqb (I .own x) none ≡ true → At 0
-      nobody t =
-          let e = eqb-true (I .own x) none t in
-          omega (arith, entries-off x (λ m h z. omega arith), other-off x (λ z. omega arith))
-
-      somebody : eqb (I .own x) none ≡ false → At 1
-      somebody t = owned-once x refl (C .owned x (eqb-false (I .own x) none t))
+      used-by : (x : ℕ) → x < 1024 → InBlock dir v arena x → used (s .control .map) x ≡ 1
+      used-by x h (in-record m b o) = used-at x m h (record-own x m o) (λ z. omega (arith, C .entries256))
+      used-by x h (other-block e) = used-at x other h (other-own x e) (λ z. omega arith)
 
   rule4 : HeadersRight dir v arena
-  rule4 = record { entries = λ m b n. from (C .entries m n .head); old = C .old-head }
-    where
-      from : {m c h : ℕ} → HeadOK v m c h → HeaderRight v m c h
-      from (own-head e) = own-header e
-      from (flag-head l n e) = flag-header l n e
+  rule4 = record { entries = λ m b n. C .entries m n .head; old = C .old-head }
 
   rule5 : NumbersAt (stageOf (v .stage)) v (wordsAt arena (v .from))
   rule5 =
-      numbers-of v (wordsAt arena (v .from)) (words (g .kind (v .meter))) (stageOf (v .stage)) (λ l. from-words (early l))
-      (λ l. from-words (late l)) (C .idle) (C .count)
+      numbers-same (stageOf (v .stage)) v (words (g .kind (v .meter))) (wordsAt arena (v .from)) (λ l. sym (from-words (early l)))
+      (λ l. sym (from-words (late l))) (C .count)
 
   -- the rows
   abbrev RowOf : Row → Client → Type 0
@@ -175,7 +145,7 @@ module _ {X : Type 0} (s : State) (g : Account) (I : Inv X s g) where
 
   hold-rule : {h m : ℕ} → HoldOK dir v h m → HoldRight dir v h
   hold-rule (empty e) = hold-empty e
-  hold-rule {h} {m} (here b e) = hold-present m (getD-in dir m none (λ z. omega arith)) e
+  hold-rule {h} {m} (here b e) = hold-present m (omega (arith, meter-lt C m (λ z. omega arith), C .entries256)) e
   hold-rule (was l e f) = hold-old l e
 
   place-rule : {h m c : ℕ} → HoldOK dir v h m → h ≢ none → Place dir h m c → (c ≡ h) ⊎ (c ≡ targetOf (header arena h))
@@ -209,20 +179,20 @@ module _ {X : Type 0} (s : State) (g : Account) (I : Inv X s g) where
   swaps-rule : (r : Row) (q : Client) → RowOf r q → SwapsAt (flagUp v arena) (v .from) (s .control .begun) r
   swaps-rule r q R = owed-le (flagUp v arena) (v .from) (s .control .begun) (r .swaps) (r .phase) (by-phase (R .phase))
     where
-      flag : flagUp v arena ≡ true → Flag v (header arena (v .from))
-      flag e = says-flag v arena .holds e
+      flag : flagUp v arena ≡ true → r .swaps < s .control .begun
+      flag e = R .lt (says-flag v arena .holds e)
 
       by-phase : {p : Phase} → PhaseOK X dir v (g .kind) (header arena (v .from)) (s .control .begun) r q p
           → Owing (flagUp v arena) (v .from) (s .control .begun) (r .swaps) p
       by-phase (rests _) =
-          record { most = R .le; flagged = λ e. R .lt (flag e); elsewhere = λ _ w. clash false w refl; waiting = λ _ w. clash false w refl }
+          record { most = R .le; flagged = flag; elsewhere = λ _ w. clash false w refl; waiting = λ _ w. clash false w refl }
       by-phase (ready _) =
-          record { most = R .le; flagged = λ e. R .lt (flag e); elsewhere = λ _ w. clash false w refl; waiting = λ _ w. clash false w refl }
+          record { most = R .le; flagged = flag; elsewhere = λ _ w. clash false w refl; waiting = λ _ w. clash false w refl }
       by-phase (waits {c} W) =
           record {
             most = R .le;
-            flagged = λ e. R .lt (flag e);
-            elsewhere = λ e w. omega (arith, W .elsewhere (flag e) (says-not (says-eq c (v .from)) .holds w));
+            flagged = flag;
+            elsewhere = λ e w. omega (arith, W .elsewhere (says-flag v arena .holds e) (says-not (says-eq c (v .from)) .holds w));
             waiting = λ _ _. W .owes;
           }
 

@@ -89,8 +89,8 @@ abbrev pub admits : Account → ℕ → ℕ → Account
 admits g m k = record { lastWritten = update (g .lastWritten) m (λ w. 0); kind = update (g .kind) m k; clients = g .clients }
 
 -- READ and WRITE: the access begins
-abbrev pub begins : Account → Step → Access → Account
-begins g t x = withClient g t (withPending (clientOf g t) (accessTo (clientOf g t .opened (holdOf x)) x))
+abbrev pub asks : Account → Step → Access → Account
+asks g t x = withClient g t (withPending (clientOf g t) (accessTo (clientOf g t .opened (holdOf x)) x))
 
 -- GO: the access is done; a write is the last one to its word
 abbrev pub written : (ℕ → ℕ → ℕ) → ℕ → Access → ℕ → ℕ → ℕ
@@ -114,35 +114,35 @@ doneBy ATTACH g t = withClient g t newClient
 doneBy DETACH g t = withClient g t newClient
 doneBy OPEN g t = withClient g t (withHold (clientOf g t) (t .b) (t .a))
 doneBy DROP g t = withClient g t (withHold (clientOf g t) (t .a) none)
-doneBy READ g t = begins g t (Read (t .a) (t .b))
-doneBy WRITE g t = begins g t (Write (t .a) (t .b) (t .v))
+doneBy READ g t = asks g t (Read (t .a) (t .b))
+doneBy WRITE g t = asks g t (Write (t .a) (t .b) (t .v))
 doneBy GO g t = ends g t
 doneBy REST g t = g
 doneBy UNKNOWN g t = g
 doneBy NOBODY g t = g
 
 -- what one more line says: a refused step, the keeper's moving and a swap say nothing of these
-abbrev pub told : Name → Account → Step → Answer → Account
-told n g t (Refused i) = g
-told n g t (Admitted c) = doneBy n g t
-told n g t (Begun c) = g
-told n g t BarrierOpen = g
-told n g t CopyingStarts = g
-told n g t (Copied i) = g
-told n g t (Committed c) = g
-told n g t CalledOff = g
-told n g t GivenBack = g
-told n g t (Done x) = doneBy n g t
-told n g t (ReadyAt c) = doneBy n g t
-told n g t (WaitsOn c) = doneBy n g t
-told n g t SwapWon = g
-told n g t SwapLost = g
-told n g t (Got x) = doneBy n g t
-told n g t Written = doneBy n g t
+abbrev pub saidBy : Name → Account → Step → Answer → Account
+saidBy n g t (Refused i) = g
+saidBy n g t (Admitted c) = doneBy n g t
+saidBy n g t (Begun c) = g
+saidBy n g t BarrierOpen = g
+saidBy n g t CopyingStarts = g
+saidBy n g t (Copied i) = g
+saidBy n g t (Committed c) = g
+saidBy n g t CalledOff = g
+saidBy n g t GivenBack = g
+saidBy n g t (Done x) = doneBy n g t
+saidBy n g t (ReadyAt c) = doneBy n g t
+saidBy n g t (WaitsOn c) = doneBy n g t
+saidBy n g t SwapWon = g
+saidBy n g t SwapLost = g
+saidBy n g t (Got x) = doneBy n g t
+saidBy n g t Written = doneBy n g t
 
 abbrev pub said : Log → Account
 said [] = newAccount
-said (x ∷ l) = told (nameOf (x .step)) (said l) (x .step) (x .answer)
+said (x ∷ l) = saidBy (nameOf (x .step)) (said l) (x .step) (x .answer)
 
 -- how many lines have the answer n; how many of party who's lines
 abbrev pub answered : ℕ → Log → ℕ
@@ -151,7 +151,8 @@ answered n l = total (λ x. one (eqb (number (x .answer)) n)) l
 abbrev pub answeredTo : ℕ → ℕ → Log → ℕ
 answeredTo who n l = total (λ x. one (eqb (x .step .who) who and eqb (number (x .answer)) n)) l
 
--- "A working step of a move is its BEGIN, or an accepted ADVANCE that is not answered 22.": those of the last move begun, and its meter
+-- "A working step of a move is its BEGIN, or an accepted ADVANCE that is not answered 22.": those of the last move begun, and its meter;
+-- only BEGIN gives 21, and only ADVANCE gives 23 to 27
 abbrev pub workingSteps : Log → ℕ
 workingSteps [] = 0
 workingSteps (x ∷ l) =

@@ -1,18 +1,53 @@
--- What is promised of every history, in 01's words. A history is any steps from fresh, with what the library answers to each; no word of
--- the arena, and no invariant, stands here.
+-- What is promised, in 01's words: demand 1 of any memory, demands 2 and 3 of every history, that is of any steps from fresh with what the
+-- library answers to each, and what is kept of every sound state. No word of the arena, and no invariant, stands here.
 use mathlib.Core.Path.{_≡_}
-use mathlib.Core.Bool.{true}
-use mathlib.Core.List.{List, [], _∷_}
-use Prim.Native.Nat.{ℕ, suc, _+_, _*_, _≤_}
+use mathlib.Core.Bool.{true, not}
+use mathlib.Core.List.{List, [], _∷_, _++_}
+use Prim.Native.Nat.{ℕ, suc, _+_, _*_, _≤_, _<_}
 use lib.ListN.{getD}
 use Rattle.model.specs.declared.Access.the-variants.{Read, Write}
 use Rattle.model.specs.Arena.{words}
 use Rattle.model.specs.Rows.{freshRow}
-use Rattle.model.specs.State.{State, number, value, Sizes}
-use Rattle.model.specs.Steps.{Step, act, stepCall, runCall, runSizes, oneByOne, stepsOf}
+use Rattle.model.specs.State.{State, number, value, Outcome, Sizes, numberOf01, Answered}
+use Rattle.model.specs.Refusals.{Refusal, _if_, applies}
+use Rattle.model.specs.Steps.{Step, nameOf, refusals, act, wrongSize, unsound, callRefusals, freshCall, auditCall, fillCall, stepCall, Ran}
+use Rattle.model.specs.Steps.{runCall, runSizes, oneByOne, stepsOf}
 use Rattle.model.specs.Rules.{firstBroken}
 use Rattle.demands.specs.Log.{Line, Log, reachedBy, historyBy, Pending, noAccess, accessTo, Account, clientOf, said, answered}
 use Rattle.demands.specs.Log.{answeredTo, workingSteps, lastMoved, ownAnswers}
+
+-- Demand 1. "Every request, on memory of any contents, ends with an answer. A bad one gets the refusal number that the specification
+-- names; control record, arena and client table stay as they were." Every line of the refusal table that speaks of a step:
+abbrev pub stepRefusals : State → Step → List Refusal
+stepRefusals s t = callRefusals s ++ refusals (nameOf t) s t
+
+-- .. and of a run
+abbrev pub runRefusals : State → List ℕ → List ℕ → List Refusal
+runRefusals s ws slots = 1 if wrongSize s ∷ 1 if not (runSizes ws slots) ∷ 2 if unsound s ∷ []
+
+-- "The lowest number that applies is given, and none is given otherwise.": n is the answer's, below 20 a refusal's
+pub record LowestGiven (lines : List Refusal) (n : ℕ) : Type 0 where
+  pub lowest : (k : ℕ) → applies k lines ≡ true → n ≤ k
+  pub applied : n < 20 → applies n lines ≡ true
+
+-- a request on state s that these lines speak of
+pub record Request (s : State) (lines : List Refusal) (o : Outcome) : Type 0 where
+  pub answered : Answered s o
+  pub given : LowestGiven lines (number (o .answer))
+
+-- "1 or 2 refuses the whole run and writes no answers"
+pub record RunRequest (s : State) (lines : List Refusal) (slots : List ℕ) (r : Ran) : Type 0 where
+  pub tabled : numberOf01 (number (r .answer)) ≡ true
+  pub unchanged : number (r .answer) < 20 → (value (r .answer) ≡ 0) × ((r .slots ≡ slots) × (r .next ≡ s))
+  pub given : LowestGiven lines (number (r .answer))
+
+-- "Of refusals fresh and audit can give only 1, fill 1 and 2."
+pub record EveryRequest (s : State) : Type 0 where
+  pub fresh : Request s (1 if wrongSize s ∷ []) (freshCall s)
+  pub audit : Request s (1 if wrongSize s ∷ []) (auditCall s)
+  pub fill : Request s (callRefusals s) (fillCall s)
+  pub step : (t : Step) → Request s (stepRefusals s t) (stepCall s t)
+  pub run : (ws slots : List ℕ) → RunRequest s (runRefusals s ws slots) slots (runCall s ws slots)
 
 -- by the library's step: the state that some steps reach from fresh, and their history, the last step first
 abbrev pub reached : List Step → State
@@ -38,6 +73,18 @@ ReadRight x before = number (x .answer) ≡ 34 → LastWrite (said before) (clie
 
 abbrev pub ReadsLastWrite : Log → Type 0
 ReadsLastWrite l = EachLine ReadRight l
+
+-- a line answered 35 finishes a write
+abbrev pub IsWrite : Pending → Type 0
+IsWrite noAccess = ⊥
+IsWrite (accessTo meter (Read h w)) = ⊥
+IsWrite (accessTo meter (Write h w x)) = Unit {0}
+
+abbrev pub WriteRight : Line → Log → Type 0
+WriteRight x before = number (x .answer) ≡ 35 → IsWrite (clientOf (said before) (x .step) .pending)
+
+abbrev pub FinishesWrites : Log → Type 0
+FinishesWrites l = EachLine WriteRight l
 
 -- Demand 3. "no client slot has made more swaps than moves were begun"
 abbrev pub SlotSwaps : Log → Type 0
@@ -79,8 +126,11 @@ pub record CountsTrue (s : State) (l : Log) : Type 0 where
   pub swaps : (i : ℕ) → getD (s .table) i freshRow .swaps ≡ answeredTo (suc i) 33 l
 
 -- THE PROMISES
+abbrev pub Demand1 : Type 0
+Demand1 = (s : State) → EveryRequest s
+
 abbrev pub Demand2 : Type 0
-Demand2 = (l : List Step) → ReadsLastWrite (history l)
+Demand2 = (l : List Step) → ReadsLastWrite (history l) × FinishesWrites (history l)
 
 abbrev pub Demand3 : Type 0
 Demand3 = (l : List Step) → Price (history l) × CountsTrue (reached l) (history l)

@@ -2,7 +2,8 @@
 use mathlib.Core.Path.{_≡_, refl, sym, ap, ap₂, _∙_, subst}
 use mathlib.Core.Logic.{⊎-elim}
 use Prim.Native.Nat.{ℕ, zero, suc, _+_, _-_, _*_, _/_, _%_, _^_, _≤_, _<_, min, max}
-use native.Mathlib.Nat.{mod-lt, add-mul, add-comm, pow-suc, mul-comm, mul-assoc, div-one, not-suc-le-zero, div-eq-of-lt, lt-of-lt-of-le, zero-div}
+use native.Mathlib.Nat.{mod-lt, add-mul, add-comm, pow-suc, mul-comm, mul-assoc, div-one, not-suc-le-zero, div-eq-of-lt, lt-of-lt-of-le}
+use native.Mathlib.Nat.{zero-div}
 use native.Mathlib.Numerals.{add-one}
 use native.Mathlib.Omega.{arith}
 use lib.Arith.{digits-lt}

@@ -5,6 +5,7 @@ use mathlib.Core.Logic.{_⊎_, inl, inr, ⊎-elim}
 use Prim.Native.Nat.{ℕ, zero, suc, _≤_, _<_, zero-le, suc-le-suc}
 use native.Mathlib.Nat.{eq-or-lt-of-le}
 use native.Mathlib.Omega.{arith}
+use lib.Dec.{T}
 use borrow.Author.Tests.{not-true, not-false}
 use Rattle.model.specs.Choice.{pick, _and_}
 
@@ -30,6 +31,10 @@ and-parts false q e = clash false e refl
 pub and-true : (p q : Bool) → p ≡ true → q ≡ true → (p and q) ≡ true
 and-true true q e f = f
 and-true false q e f = e
+
+pub both-hold : (p q : Bool) → T (p and q) → T p × T q
+both-hold true q t = (tt, t)
+both-hold false q t = absurd t
 
 -- nothing more is asked
 pub and-yes : (p : Bool) → (p and true) ≡ p

@@ -11,6 +11,7 @@ use borrow.Author.Tests.{eq-eqb, ne-eqb}
 use Rattle.model.specs.declared.Access.{Access}
 use Rattle.model.specs.declared.Phase.the-variants.{Ready}
 use Rattle.model.specs.declared.Row.{Row}
+use Rattle.model.specs.declared.Move.{Move}
 use Rattle.model.specs.Arena.{place, word, header, plain, flagged, targetOf, wordsAt}
 use Rattle.model.specs.State.{rise, State, told, Outcome}
 use Rattle.model.specs.ClientSteps.{swap, changed}
@@ -40,10 +41,9 @@ copy-leaves s i n =
     (λ _. getD-set-other (s .arena) (place (moveOf s .target) (moveOf s .copied)) i (replicaWord (s .arena) (moveOf s)) 0 n)
     (λ _. getD-set-other (s .arena) (place (moveOf s .target) (moveOf s .copied)) i (replicaWord (s .arena) (moveOf s)) 0 n)
 
-pub replica-copies : (s : State) → moveOf s .copied ≢ 0
-    → replicaWord (s .arena) (moveOf s) ≡ word (s .arena) (moveOf s .from) (moveOf s .copied)
+pub replica-copies : (arena : List ℕ) (v : Move) → v .copied ≢ 0 → replicaWord arena v ≡ word arena (v .from) (v .copied)
 unfolding replicaWord
-replica-copies s n = rw (ne-eqb (moveOf s .copied) 0 n)
+replica-copies arena v n = rw (ne-eqb (v .copied) 0 n)
 
 -- a swap that wins clears the flag; one that loses is ready at once, at the header's target
 pub swap-clears : (arena : List ℕ) (r : Row) (c : ℕ) (x : Access) → place c 0 < length arena → header arena c ≡ flagged c

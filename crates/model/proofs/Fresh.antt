@@ -39,7 +39,7 @@ fresh-covered : (x : ℕ) → blocksOver (fresh .control .dir) noMove (fresh .ar
 unfolding blocksOver
 fresh-covered x = omega (arith, absent-cover (fresh .arena) x 256)
 
--- a fresh row breaks no rule, in any sound state
+-- a fresh row keeps R6 in any sound state
 pub fresh-row : (dir : List ℕ) (v : Move) (arena : List ℕ) → (Late v → none ≢ v .from) → RowRight dir v arena freshRow
 fresh-row dir v arena f =
     record {
@@ -49,6 +49,7 @@ fresh-row dir v arena f =
       passed = λ l _. (f l, (f l, (f l, (f l, tt))));
     }
 
+-- .. and R8
 pub fresh-swaps : (flag : Bool) (from begun : ℕ) → (flag ≡ true → 0 < begun) → SwapsAt flag from begun freshRow
 fresh-swaps true from begun h = h refl
 fresh-swaps false from begun h = omega arith

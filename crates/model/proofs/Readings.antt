@@ -1,12 +1,12 @@
 -- What each rule says, in plain words, and that its test says it; a sound state is one of which all eight hold. Assumes nothing.
 use mathlib.Core.Path.{_≡_, refl, sym, _∙_}
-use mathlib.Core.Logic.{_≢_, _⊎_, inl, inr}
+use mathlib.Core.Logic.{_≢_, _⊎_, inl, inr, ⊎-elim}
 use mathlib.Core.Bool.{Bool, true, false, not}
 use mathlib.Core.List.{List, [], _∷_}
 use Prim.Native.Nat.{ℕ, zero, suc, _+_, _≤_, _<_}
 use native.Mathlib.Omega.{arith}
 use lib.Dec.{T, eqb}
-use lib.ListN.{length, getD}
+use lib.ListN.{length, getD, List·getD-eq-default}
 use Rattle.model.specs.declared.Access.{Access}
 use Rattle.model.specs.declared.Phase.{Phase}
 use Rattle.model.specs.declared.Phase.the-variants.{Resting, Ready, Waiting}
@@ -19,12 +19,17 @@ use Rattle.model.specs.State.{Stage, idle, firstBarrier, copying, second
 use Rattle.model.specs.Rules.{isCell, isEarly, isLate, recordRight, R1, replicaRight, earlyRight, lateRight, R2, blocksOver}
 use Rattle.model.specs.Rules.{cellRight, R3, headerRight, R4, numbersRight, R5, detachedRight, holdRight, accessRight, phaseRight}
 use Rattle.model.specs.Rules.{passedRight, rowRight, R6, R7, flagUp, waits, waitsElsewhere, swapsRight, R8, firstFalse, firstBroken}
-use Rattle.model.proofs.Choice.{clash, by-test}
+use Rattle.model.proofs.Choice.{clash, by-test, order}
 use Rattle.model.proofs.Says.{Says, says-eq, says-lt, says-le, says-is, says-isnt, says-holds, says-yes, says-as, says-not, says-and}
 use Rattle.model.proofs.Says.{says-or, says-when, says-every, Somewhere, says-all, says-none, says-any}
 
 abbrev pub Present : List ℕ → ℕ → Type 0
 Present dir m = entry dir m ≢ none
+
+-- a meter past the directory's end is absent
+pub present-lt : (dir : List ℕ) → length dir ≡ 256 → (m : ℕ) → Present dir m → m < 256
+present-lt dir l m n =
+    ⊎-elim (λ p. p) (λ (p : 256 ≤ m). absurd (n (List·getD-eq-default dir none (omega arith)))) (order m 256)
 
 -- "its first three stages"; "the third barrier"
 abbrev pub Early : Move → Type 0
@@ -373,9 +378,12 @@ says-swaps flag from begun r =
     (says-and (says-when (says-is flag) (says-and (says-lt _ _) (says-when (says-is (waitsElsewhere from (r .phase))) (says-lt _ _))))
     (says-when (says-isnt flag) (says-when (says-is (waits (r .phase))) (says-lt _ _)))))
 
--- the moved record's header is flagged
+-- the moved record's header, h, is flagged
+abbrev pub Flag : Move → ℕ → Type 0
+Flag v h = Early v × (h ≡ flagged (v .from))
+
 abbrev pub FlagUp : Move → List ℕ → Type 0
-FlagUp v arena = Early v × (header arena (v .from) ≡ flagged (v .from))
+FlagUp v arena = Flag v (header arena (v .from))
 
 pub says-flag : (v : Move) (arena : List ℕ) → Says (flagUp v arena) (FlagUp v arena)
 unfolding flagUp

@@ -2,14 +2,14 @@
 -- holds of whatever is given. Assumes nothing.
 use mathlib.Core.Path.{_≡_, refl, sym, ap, _∙_, subst}
 use mathlib.Core.Bool.{Bool, true, false}
-use mathlib.Core.List.{List, [], _∷_}
+use mathlib.Core.List.{List, [], _∷_, _++_}
 use Prim.Native.Nat.{ℕ, _≤_, _<_}
 use native.Mathlib.Omega.{arith}
 use lib.Dec.{T, eqb, ltb, leb}
-use borrow.Author.Tests.{eqb-true, leb-true, ltb-true}
+use borrow.Author.Tests.{eqb-true, eq-eqb, leb-true, ltb-true}
 use Rattle.model.specs.Choice.{pick, _and_, _or_}
 use Rattle.model.specs.Refusals.{Refusal, refuse, given, applies}
-use Rattle.model.proofs.Choice.{by-test, clash, and-parts, pick-map}
+use Rattle.model.proofs.Choice.{by-test, clash, and-parts, and-no, pick-map}
 
 -- no line applies
 abbrev pub Passed : List Refusal → Type 0
@@ -62,6 +62,15 @@ pub refuse-map : {A B : Type 0} (g : A → B) (l : List Refusal) (f : ℕ → A)
 refuse-map g [] f o = refl
 refuse-map g (r ∷ l) f o = pick-map g (r .1) (f (r .0)) (refuse l f o) ∙ ap (pick (r .1) (g (f (r .0)))) (refuse-map g l f o)
 
+-- lines that are asked after others
+pub refuse-after : {A : Type 0} (l m : List Refusal) (f : ℕ → A) (o : A) → refuse l f (refuse m f o) ≡ refuse (l ++ m) f o
+refuse-after [] m f o = refl
+refuse-after (g ∷ l) m f o = ap (pick (g .1) (f (g .0))) (refuse-after l m f o)
+
+pub passed-after : (l m : List Refusal) → Passed (l ++ m) → Passed m
+passed-after [] m p = p
+passed-after (g ∷ l) m p = passed-after l m (p .1)
+
 -- where no line applies it is accepted
 pub accepted : {A : Type 0} (l : List Refusal) (f : ℕ → A) (o : A) → Passed l → refuse l f o ≡ o
 accepted [] f o p = refl
@@ -93,14 +102,22 @@ floor (g ∷ l) n m t e = by (leb n (g .0)) refl t (eqb (g .0) m) refl (g .1) e 
     by true p u false q x f r = r u f
     by false p u q d x f r = absurd u
 
-pub lowest-is-given : (l : List Refusal) → T (rising l) → (n : ℕ) → applies n l ≡ true → given l ≤ n
-lowest-is-given [] t n e = clash false e refl
-lowest-is-given (g ∷ l) t n e = by (atLeast (g .0) l) refl t (g .1) (eqb (g .0) n) refl e (λ u. lowest-is-given l u n)
+-- .. k being the accepted outcome's
+pub lowest-is-given : (l : List Refusal) (k : ℕ) → T (rising l) → (n : ℕ) → applies n l ≡ true → refuse l (λ i. i) k ≤ n
+lowest-is-given [] k t n e = clash false e refl
+lowest-is-given (g ∷ l) k t n e = by (atLeast (g .0) l) refl t (g .1) (eqb (g .0) n) refl e (λ u. lowest-is-given l k u n)
   where
     by : (p : Bool) → atLeast (g .0) l ≡ p → T (p and rising l) → (x q : Bool) → eqb (g .0) n ≡ q → ((q and x) or applies n l) ≡ true
-        → (T (rising l) → applies n l ≡ true → given l ≤ n) → pick x (g .0) (given l) ≤ n
+        → (T (rising l) → applies n l ≡ true → refuse l (λ i. i) k ≤ n) → pick x (g .0) (refuse l (λ i. i) k) ≤ n
     by true p u true true q f r = omega (arith, eqb-true (g .0) n q)
     by true p u true false q f r = floor l (g .0) n (subst T (sym p) tt) f
     by true p u false true q f r = r u f
     by true p u false false q f r = r u f
     by false p u x q d f r = absurd u
+
+-- "and none is given otherwise": a number below 20 is that of a line which applies, where what is accepted is answered from 20 on
+pub given-applies : (l : List Refusal) (k : ℕ) → (Passed l → 20 ≤ k) → refuse l (λ i. i) k < 20 → applies (refuse l (λ i. i) k) l ≡ true
+given-applies [] k h b = absurd (omega (arith, h tt))
+given-applies ((n, true) ∷ l) k h b = rw (eq-eqb n n refl) refl
+given-applies ((n, false) ∷ l) k h b =
+    rw (and-no (eqb n (refuse l (λ i. i) k))) (given-applies l k (λ p. h (refl, p)) b)

@@ -1,16 +1,11 @@
 -- Fresh has the sizes of the code's types, and a state that has them is not refused by 1. Assumes nothing.
 use mathlib.Core.Path.{_≡_, refl}
 use mathlib.Core.Bool.{false}
-use Prim.Native.Nat.{_^_, _<_}
 use native.Mathlib.Omega.{arith}
-use lib.ListN.{length}
-use Rattle.model.specs.declared.Row.{Row}
 use Rattle.model.specs.State.{State, fresh, Sizes}
 use Rattle.model.specs.Rows.{freshRow, FourHolds}
 use Rattle.model.specs.Steps.{wrongSize}
-use Rattle.model.specs.Arena.{IsMap}
 use Rattle.model.proofs.CellMap.{fresh-map}
-use Rattle.model.specs.Choice.{All}
 use Rattle.model.proofs.Says.{all-replicate}
 
 pub fresh-sizes : Sizes fresh

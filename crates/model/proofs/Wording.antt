@@ -4,22 +4,22 @@ use mathlib.Core.Path.{_≡_, sym, ap, _∙_}
 use mathlib.Core.Logic.{_≢_, ⊎-elim}
 use mathlib.Core.Bool.{true}
 use mathlib.Core.List.{List}
-use Prim.Native.Nat.{ℕ, _+_, _%_, _≤_, _<_}
+use Prim.Native.Nat.{ℕ, _+_, _%_, _<_}
 use native.Mathlib.Omega.{arith}
-use lib.ListN.{length, List·getD-eq-default}
+use lib.ListN.{length}
 use borrow.Author.Tests.{eqb-true, eq-eqb}
 use Rattle.model.specs.declared.Move.{Move}
 use Rattle.model.specs.Choice.{total}
 use Rattle.model.specs.Arena.{none, header, flagOf, used}
 use Rattle.model.specs.State.{entry}
 use Rattle.model.specs.Rules.{recordCovers, flagUp}
-use Rattle.model.proofs.Choice.{order, same-or-not}
+use Rattle.model.proofs.Choice.{same-or-not}
 use Rattle.model.proofs.CellMap.{used-lt}
 use Rattle.model.proofs.Says.{Says, says-as, Somewhere}
 use Rattle.model.proofs.Covers.{Over, total-at, total-two, total-some, total-zero, total-one, record-le, record-in, record-is}
 use Rattle.model.proofs.Covers.{record-out, otherOver, other-le, blocks-are}
 use Rattle.model.proofs.Readings.{Present, CellsRight, MoveRight, HeadersRight, HeaderRight, own-header, flag-header, FlagUp}
-use Rattle.model.proofs.Readings.{says-flag}
+use Rattle.model.proofs.Readings.{says-flag, present-lt}
 
 -- R3 "Used cells are exactly those of present records and of the move's other block; none lies in two."
 module _ (dir : List ℕ) (v : Move) (arena : List ℕ) (x : ℕ) where
@@ -105,17 +105,13 @@ pub says-some-flagged : (dir : List ℕ) (v : Move) (arena : List ℕ) → lengt
     → Says (flagUp v arena) (SomeFlagged dir arena)
 says-some-flagged dir v arena l M H = says-as to (λ f. from f (H .entries (f .meter) (f .low) (f .present))) (says-flag v arena)
   where
-    below : Present dir (v .meter) → v .meter < 256
-    below n =
-        ⊎-elim (λ p. p) (λ (p : 256 ≤ v .meter). absurd (n (List·getD-eq-default dir none (omega arith)))) (order (v .meter) 256)
-
     to : FlagUp v arena → SomeFlagged dir arena
     to f =
         let E = M .early (f .0) in
         let h : header arena (entry dir (v .meter)) % 2 ≡ 1 = omega (arith, ap (header arena) (E .old), f .1) in
         record {
           meter = v .meter;
-          low = below (E .present);
+          low = present-lt dir l (v .meter) (E .present);
           present = E .present;
           flag = eq-eqb _ _ h;
         }

@@ -74,7 +74,8 @@ unfoldable pub R2 : List ℕ → Move → List ℕ → Bool
 R2 dir v arena = ltb (v .stage) 5 and (isEarly v ⇒ earlyRight dir v arena) and (isLate v ⇒ lateRight dir v arena)
 
 -- R3 "Used cells are exactly those of present records and of the move's other block; none lies in two.": each cell is covered by
--- as many blocks as its bit says. 1 where cell x is one of the n cells from c on
+-- as many blocks as its bit says.
+-- 1 where cell x is one of the n cells from c on
 unfoldable pub covers : ℕ → ℕ → ℕ → ℕ
 covers c n x = one (leb c x and ltb x (c + n))
 
