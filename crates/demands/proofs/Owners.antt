@@ -51,8 +51,7 @@ pub mapped-run : (own : ℕ → ℕ) (map : List ℕ) (c n i b : ℕ) → IsMap 
     → Mapped (repaint own c n i) (putRun map c n b)
 mapped-run own map c n i b m fits small e h x lt =
     repaint-cases (λ (j : ℕ). used (putRun map c n b) x ≡ bitOf j) own c n i x
-    (λ p q. let z : c + (x - c) ≡ x = omega arith in
-    ap (used (putRun map c n b)) (sym z) ∙ used-run map c n b (x - c) m fits small (omega arith) ∙ sym e)
+    (λ p q. used-run map c n b x m small p q lt ∙ sym e)
     (λ o. used-run-other map c n b x small
     (⊎-elim inl (λ (p : c ≤ x). inr (⊎-elim (λ q. absurd (o p q)) (λ q. q) (order x (c + n)))) (order x c)) ∙ h x lt)
 
