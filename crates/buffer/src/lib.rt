@@ -1,5 +1,5 @@
 // Control record, arena and client table in one buffer of bytes (docs/LAYOUT.md): decoded and encoded.
-// Knows nothing of calls and refusals: it takes any contents, and the buffer's size as asked.
+// Knows nothing of calls and refusals: it takes any contents. Each `requires` is a size that the exported calls have tested.
 ghost use mathlib.Core.Path.{_≡_};
 ghost use lib.ListN.{length};
 ghost use Rattle.model.specs.Arena.{laid};

@@ -42,7 +42,7 @@ pub record Looks (r : Reply) (o : Outcome) : Type 0 where
 unfoldable pub tableOf : ℕ → Eight → List Row
 tableOf n e = pick (eqb n 8) (rowsIn e) []
 
--- the same on rows by value: eight are left as the table is, and of any other number they come back as they were
+-- the same of the eight rows by value of a table that has n: where n is not eight, they come back as they were
 pub record DoesRows (n : ℕ) (before : Eight) (d : Done) (a : List ℕ) (o : Outcome) : Type 0 where
   pub does : Does (d .reply) a (tableOf n (d .rows)) o
   pub other : eqb n 8 ≡ false → d .rows ≡ before
