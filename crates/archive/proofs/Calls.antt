@@ -21,7 +21,8 @@ use Rattle.model.specs.Rules.{firstBroken}
 use Rattle.model.proofs.Choice.{by-test, and-parts}
 use Rattle.model.proofs.Records.{laid-all}
 use Rattle.model.proofs.Refusals.{refused-by-given, accepted-by-given}
-use Rattle.model.proofs.Answered.{Answered, answered}
+use Rattle.model.specs.State.{Answered}
+use Rattle.model.proofs.Answered.{answered}
 use Rattle.table.specs.Words.{tableWords, rowsOf, eachRow, freshen}
 use Rattle.table.proofs.Rows.{fresh-rows}
 use Rattle.acts.specs.declared.Turned.{Turned}

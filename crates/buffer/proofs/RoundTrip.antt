@@ -8,6 +8,7 @@ use Prim.Native.Nat.{ℕ, _+_, _*_, _≤_, _<_}
 use native.Mathlib.Omega.{arith}
 use lib.ListN.{length, getD, take, drop}
 use lib.Seq.{take-add, take-all, drop-drop}
+use Rattle.model.specs.declared.Control.{Control}
 use Rattle.model.specs.State.{State, state, Sizes}
 use Rattle.model.specs.Rules.{firstBroken}
 use Rattle.model.specs.Choice.{All}
@@ -19,7 +20,7 @@ use Rattle.table.proofs.Rows.{length-words, rows-of-words, words-of-rows, sound
 use Rattle.wire.specs.Bytes.{numbers, allBytes}
 use Rattle.wire.proofs.Bytes.{length-all, length-numbers}
 use Rattle.wire.proofs.RoundTrip.{InBytes, IsByte, numbers-skip, numbers-of-all, all-of-numbers, numbers-one}
-use Rattle.buffer.specs.Buffer.{Part, joined, controlParts, moveIn, controlIn, arenaIn, tableIn, stateIn, bytesIn, bytesOf}
+use Rattle.buffer.specs.Buffer.{Part, joined, controlParts, moveIn, controlIn, arenaIn, tableIn, Decoded, stateIn, bytesIn, bytesOf}
 
 -- docs/LAYOUT.md: how many bytes a number has, and how many numbers
 abbrev Room : Type 0
@@ -67,6 +68,11 @@ stateOf l =
 state-of-parts : (b : List ℕ) → stateIn b ≡ stateOf (partsIn layout b 0)
 unfolding stateIn controlIn moveIn
 state-of-parts b = simp numbers-one
+
+-- what is read out of the bytes is the state that they mean
+pub state-decoded : {c : Control} {arena table b : List ℕ} → Decoded c arena table b → state c arena (rowsOf table) ≡ stateIn b
+unfolding stateIn
+state-decoded d = rw (d .control, d .arena, d .table) refl
 
 -- From a state to bytes and back
 

@@ -1,4 +1,5 @@
 -- 01: "In the exported form the archive and table lie in lent bytes of one fixed size." docs/LAYOUT.md has the same as a table.
+use mathlib.Core.Path.{_≡_}
 use mathlib.Core.List.{List, [], _∷_, _++_}
 use Prim.Native.Nat.{ℕ}
 use Rattle.model.specs.declared.Move.{Move}
@@ -32,6 +33,12 @@ arenaIn b = numbers 4 8192 b 668
 
 abbrev pub tableIn : List ℕ → List ℕ
 tableIn b = numbers 4 96 b 33436
+
+-- what is read out of the bytes: the control record, and each word of arena and table
+pub record Decoded (c : Control) (a t b : List ℕ) : Type 0 where
+  pub control : c ≡ controlIn b
+  pub arena : a ≡ arenaIn b
+  pub table : t ≡ tableIn b
 
 -- "Row bytes that mean no row, or a stage that is none, break R6 or R2.": by `rowsOf` and by the rules
 unfoldable pub stateIn : List ℕ → State

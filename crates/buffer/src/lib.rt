@@ -1,11 +1,9 @@
 // Control record, arena and client table in one buffer of bytes (docs/LAYOUT.md): decoded and encoded.
-// Knows nothing of calls and refusals: it takes any contents, and the buffer's size as asked.
+// Knows nothing of calls and refusals: it takes any contents. Each `requires` is a size that the exported calls have tested.
 ghost use mathlib.Core.Path.{_≡_};
 ghost use lib.ListN.{length};
 ghost use Rattle.model.specs.Arena.{laid};
-ghost use Rattle.model.specs.State.{state};
-ghost use Rattle.table.specs.Words.{rowsOf};
-ghost use Rattle.buffer.specs.Buffer.{moveIn, controlIn, joined, moveParts, countParts, controlParts, bytesIn, stateIn};
+ghost use Rattle.buffer.specs.Buffer.{moveIn, controlIn, joined, moveParts, countParts, controlParts, bytesIn, Decoded};
 use model::Control;
 use model::Move;
 
@@ -90,10 +88,10 @@ pub fn state_out(b: &mut [u8], control: Control, arena: &[u32], table: &[u32])
     wire::words_out(b, 33436, table);
 }
 
-// What the buffer means: arena and table into words, the control record by value.
+// Every byte is read: the control record by value, arena and table into words.
 pub fn state_in(b: &[u8], arena: &mut [u32], table: &mut [u32]) -> Control
     requires { ⌜ (length (now b) ≡ 33820) × (length (now arena) ≡ 8192) × (length (now table) ≡ 96) ⌝ }
-    ensures { λ r. ⌜ state r (now (arena .exit)) (rowsOf (now (table .exit))) ≡ stateIn (now (b .entry)) ⌝ }
+    ensures { λ r. ⌜ Decoded r (now (arena .exit)) (now (table .exit)) (now (b .entry)) ⌝ }
 {
     wire::words_in(b, 668, arena);
     wire::words_in(b, 33436, table);

@@ -11,8 +11,9 @@ use Rattle.model.specs.declared.Answer.the-variants.{Refused, Done}
 use Rattle.model.specs.State.{State, Outcome, outcome, number, fresh}
 use Rattle.model.specs.Refusals.{_if_}
 use Rattle.model.specs.Steps.{Step, act, refused, wrongSize, unsound, freshCall, stepCall, fillCall, auditCall, runCall, Ran, ran, oneByOne}
-use Rattle.model.specs.Steps.{stepsOf, runSizes}
+use Rattle.model.specs.Steps.{stepsOf, runSizes, callRefusals}
 use Rattle.model.proofs.Refusals.{unless-refused}
+use Rattle.model.proofs.Calls.{wrong-size-refused, run-wrong-size, ran-done}
 use Rattle.model.proofs.Answered.{answered}
 use Rattle.table.proofs.FourHolds.{four-fresh}
 use Rattle.acts.proofs.Acts.{Rows, acts}
@@ -49,14 +50,13 @@ fresh-keeps s R =
     (λ _. accepted s (outcome (Done 0) fresh) (record { eight = refl; four = four-fresh 8 }) refl)
 
 pub fresh-is : Call freshCall
-unfolding freshCall
-fresh-is = record { tests = record { by-one = λ s e. rw e refl }; keeps = fresh-keeps }
+fresh-is = record { tests = record { by-one = λ s e. wrong-size-refused s e .fresh }; keeps = fresh-keeps }
 
 -- a step
 step-rows : (t : Step) (s : State) → Rows s → Rows (stepCall s t .next)
 unfolding stepCall
 step-rows t s R =
-    unless-refused (λ (o : Outcome). Rows (o .next)) (1 if wrongSize s ∷ 2 if unsound s ∷ []) (refused s) (act s t) (λ _. R)
+    unless-refused (λ (o : Outcome). Rows (o .next)) (callRefusals s) (refused s) (act s t) (λ _. R)
     (λ _. acts s (t .who) (t .code) (t .a) (t .b) (t .v) R .rows)
 
 step-keeps : (t : Step) (s : State) → Rows s → Keeps s (stepCall s t)
@@ -67,15 +67,14 @@ step-keeps t s R =
     }
 
 pub step-is : (t : Step) → Call (λ s. stepCall s t)
-unfolding stepCall
-step-is t = record { tests = record { by-one = λ s e. rw e refl }; keeps = step-keeps t }
+step-is t = record { tests = record { by-one = λ s e. wrong-size-refused s e .step t }; keeps = step-keeps t }
 
 -- a run
 abbrev pub ranOut : Ran → Outcome
 ranOut r = outcome (r .answer) (r .next)
 
-steps-keep : (l : List Step) (s : State) → Rows s → Rows (oneByOne act s l .next) × (oneByOne act s l .answer ≡ Done 0)
-steps-keep [] s R = (R, refl)
+steps-keep : (l : List Step) (s : State) → Rows s → Rows (oneByOne act s l .next)
+steps-keep [] s R = R
 steps-keep (t ∷ l) s R = steps-keep l (act s t .next) (acts s (t .who) (t .code) (t .a) (t .b) (t .v) R .rows)
 
 run-keeps : (ws slots : List ℕ) (s : State) → Rows s → Keeps s (ranOut (runCall s ws slots))
@@ -83,20 +82,15 @@ unfolding runCall
 run-keeps ws slots s R =
     unless-refused (λ (r : Ran). Keeps s (ranOut r)) (1 if wrongSize s ∷ 1 if not (runSizes ws slots) ∷ 2 if unsound s ∷ [])
     (λ n. ran (Refused n) slots s) (oneByOne act s (stepsOf ws)) (turned-down s R)
-    (λ _. let k = steps-keep (stepsOf ws) s R in accepted s (ranOut (oneByOne act s (stepsOf ws))) (k .0) (ap isRefused (k .1)))
-
-pub run-wrong : (ws slots : List ℕ) (s : State) → wrongSize s ≡ true → runCall s ws slots ≡ ran (Refused 1) slots s
-unfolding runCall
-run-wrong ws slots s e = rw e refl
+    (λ _. let l = stepsOf ws in
+    accepted s (ranOut (oneByOne act s l)) (steps-keep l s R) (ap isRefused (ran-done act s l)))
 
 pub run-is : (ws slots : List ℕ) → Call (λ s. ranOut (runCall s ws slots))
-run-is ws slots = record { tests = record { by-one = λ s e. ap ranOut (run-wrong ws slots s e) }; keeps = run-keeps ws slots }
+run-is ws slots = record { tests = record { by-one = λ s e. ap ranOut (run-wrong-size s ws slots e) }; keeps = run-keeps ws slots }
 
 -- fill and audit
 pub fill-is : Tests fillCall
-unfolding fillCall
-fill-is = record { by-one = λ s e. rw e refl }
+fill-is = record { by-one = λ s e. wrong-size-refused s e .fill }
 
 pub audit-is : Tests auditCall
-unfolding auditCall
-audit-is = record { by-one = λ s e. rw e refl }
+audit-is = record { by-one = λ s e. wrong-size-refused s e .audit }

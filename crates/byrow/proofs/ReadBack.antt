@@ -9,19 +9,22 @@ use lib.ListN.{length}
 use borrow.Author.Tests.{eq-eqb}
 use Rattle.model.specs.declared.Row.{Row}
 use Rattle.model.specs.declared.Control.{Control}
-use Rattle.model.specs.Choice.{_and_}
+use Rattle.model.specs.Choice.{_and_, All}
+use Rattle.model.specs.Rows.{FourHolds}
 use Rattle.model.specs.State.{State, state, Outcome}
 use Rattle.model.specs.Steps.{refused, wrongSize, runCall, Ran}
+use Rattle.model.proofs.Choice.{clash}
+use Rattle.model.proofs.Calls.{run-wrong-size}
 use Rattle.table.specs.Words.{tableWords, rowsRead}
-use Rattle.table.proofs.FourHolds.{FourHolds}
+use Rattle.table.proofs.FourHolds.{FourHolds as FourEach, four-of-all}
 use Rattle.table.proofs.Rows.{rows-of-words}
 use Rattle.rows.specs.declared.Eight.{Eight}
 use Rattle.rows.specs.Eight.{rowsIn}
 use Rattle.archive.specs.declared.Reply.{Reply}
 use Rattle.archive.specs.Does.{meant, CallDoes, RunDoes, LookDoes}
-use Rattle.byrow.specs.Does.{Does, Runs, Looks, tableOf, turnedDown}
+use Rattle.byrow.specs.Does.{Does, Looks, tableOf, DoesRows, RunsRows, turnedDown}
 use Rattle.byrow.proofs.Words.{read-after}
-use Rattle.byrow.proofs.Calls.{Tests, Keeps, Call, run-wrong, run-is}
+use Rattle.byrow.proofs.Calls.{Tests, Keeps, Call, run-is}
 
 -- the table of the rows, by its length
 pub these-rows : (n : ℕ) (e : Eight) → n ≡ 8 → tableOf n e ≡ rowsIn e
@@ -45,21 +48,27 @@ module _ {g : State → Outcome} (G : Tests g) (c : Control) (a : List ℕ) (e :
   pub refused-so : g (state c a (tableOf n e)) ≡ refused (state c a []) 1
   refused-so = rw (no-rows n e other) (G .by-one (state c a []) (wrong-length c a [] refl))
 
-  pub rows-refused : Does (turnedDown c e .reply) a (tableOf n e) (g (state c a (tableOf n e)))
-  rows-refused = rw (refused-so, no-rows n e other) (record { answer = refl; control = refl; arena = refl; table = refl })
+  refused-does : Does (turnedDown c e .reply) a (tableOf n e) (g (state c a (tableOf n e)))
+  refused-does = rw (refused-so, no-rows n e other) (record { answer = refl; control = refl; arena = refl; table = refl })
+
+  pub rows-refused : DoesRows n e (turnedDown c e) a (g (state c a (tableOf n e)))
+  rows-refused = record { does = refused-does; other = λ _. refl }
 
   pub look-refused : Looks (turnedDown c e .reply) (g (state c a (tableOf n e)))
   look-refused = rw refused-so (record { answer = refl; control = refl })
 
 -- the calls on eight rows: their words are worked on, and read back
-module _ (c : Control) (a : List ℕ) (e : Eight) (n : ℕ) (eight : n ≡ 8) (four : FourHolds (rowsIn e)) where
+module _ (c : Control) (a : List ℕ) (e : Eight) (n : ℕ) (eight : n ≡ 8) (holds : All FourHolds (rowsIn e)) where
+  four : FourEach (rowsIn e)
+  four = four-of-all {table = rowsIn e} holds
+
   meant-rows : meant c a (tableWords (rowsIn e)) ≡ state c a (tableOf n e)
   meant-rows = ap (state c a) (rows-of-words (rowsIn e) refl four ∙ sym (these-rows n e eight))
 
-  pub rows-done : {g : State → Outcome} → Call g → (f : Eight) {r : Reply} {a' t : List ℕ}
+  read-back : {g : State → Outcome} → Call g → (f : Eight) {r : Reply} {a' t : List ℕ}
       → CallDoes (tableWords (rowsIn e)) r a' t (g (meant c a (tableWords (rowsIn e)))) → rowsIn f ≡ rowsRead t
       → Does r a' (tableOf n f) (g (state c a (tableOf n e)))
-  rows-done {g} G f d p =
+  read-back {g} G f d p =
       let s : State = state c a (tableOf n e) in
       let k : Keeps s (g s) = G .keeps s (record { eight = ap length (these-rows n e eight); four = rw (these-rows n e eight) four }) in
       let d' = rw meant-rows at d in
@@ -73,25 +82,42 @@ module _ (c : Control) (a : List ℕ) (e : Eight) (n : ℕ) (eight : n ≡ 8) (f
             (λ h. k .same h ∙ these-rows n e eight) (d' .table);
       }
 
+  not-other : {X : Type 0} → eqb n 8 ≡ false → X
+  not-other h = clash (eqb n 8) (eq-eqb n 8 eight) h
+
+  pub rows-done : {g : State → Outcome} → Call g → (f : Eight) {r : Reply} {a' t : List ℕ}
+      → CallDoes (tableWords (rowsIn e)) r a' t (g (meant c a (tableWords (rowsIn e)))) → rowsIn f ≡ rowsRead t
+      → DoesRows n e (record { reply = r; rows = f }) a' (g (state c a (tableOf n e)))
+  rows-done G f d p = record { does = read-back G f d p; other = not-other }
+
   pub look-done : (g : State → Outcome) {r : Reply}
       → LookDoes r (g (meant c a (tableWords (rowsIn e)))) → Looks r (g (state c a (tableOf n e)))
   look-done g d = let d' = rw meant-rows at d in record { answer = d' .answer; control = d' .control }
 
   pub run-done : (ws slots : List ℕ) (f : Eight) {r : Reply} {a' t l : List ℕ}
       → RunDoes (tableWords (rowsIn e)) r a' t l (runCall (meant c a (tableWords (rowsIn e))) ws slots) → rowsIn f ≡ rowsRead t
-      → Runs r a' (tableOf n f) l (runCall (state c a (tableOf n e)) ws slots)
+      → RunsRows n e (record { reply = r; rows = f }) a' l (runCall (state c a (tableOf n e)) ws slots)
   run-done ws slots f d p =
       record {
-        leaves =
-            rows-done (run-is ws slots) f (record { answer = d .answer; control = d .control; arena = d .arena; table = d .table }) p;
-        slots = rw meant-rows at (d .slots);
+        runs =
+            record {
+              leaves =
+                  read-back (run-is ws slots) f (record { answer = d .answer; control = d .control; arena = d .arena; table = d .table }) p;
+              slots = rw meant-rows at (d .slots);
+            };
+        other = not-other;
       }
 
 pub run-refused : (ws slots : List ℕ) (c : Control) (a : List ℕ) (e : Eight) (n : ℕ) → eqb n 8 ≡ false
-    → Runs (turnedDown c e .reply) a (tableOf n e) slots (runCall (state c a (tableOf n e)) ws slots)
+    → RunsRows n e (turnedDown c e) a slots (runCall (state c a (tableOf n e)) ws slots)
 run-refused ws slots c a e n h =
+    let s = state c a (tableOf n e) in
+    let kept = run-wrong-size s ws slots (rw (no-rows n e h) (wrong-length c a [] refl)) in
     record {
-      leaves = rows-refused (run-is ws slots .tests) c a e n h;
-      slots =
-          sym (ap (λ (r : Ran). r .slots) (run-wrong ws slots (state c a (tableOf n e)) (rw (no-rows n e h) (wrong-length c a [] refl))));
+      runs =
+          record {
+            leaves = refused-does (run-is ws slots .tests) c a e n h;
+            slots = sym (ap (λ (r : Ran). r .slots) kept);
+          };
+      other = λ _. refl;
     }

@@ -11,10 +11,12 @@ use denote.Laws.{Is}
 use Rattle.model.specs.declared.Row.{Row}
 use Rattle.model.specs.declared.Phase.the-variants.{Resting}
 use Rattle.model.specs.declared.Answer.{Answer}
+use Rattle.model.specs.Choice.{All}
+use Rattle.model.specs.Rows.{FourHolds}
 use Rattle.model.proofs.Choice.{by-test}
 use Rattle.model.proofs.Row as T
 use Rattle.table.specs.Words.{tableWords, listFrom, rowRead, rowsRead, putRow}
-use Rattle.table.proofs.FourHolds.{Four, FourHolds, four-of-all}
+use Rattle.table.proofs.FourHolds.{FourHolds as FourEach}
 use Rattle.table.proofs.Rows.{rows-read, put-row}
 use Rattle.rows.specs.declared.Eight.{Eight}
 use Rattle.rows.specs.Eight.{rowsIn}
@@ -34,7 +36,7 @@ pub row-stored : (table : List Row) (i : ℕ) (r : Row) {t u : List ℕ} → u �
 row-stored table i r e f = rw (e, f) (put-row table i r)
 
 -- what a call leaves in the words of eight rows is read as the rows that it leaves
-pub read-after : (l : List Row) → length l ≡ 8 → FourHolds l → (x : Answer) (next : List Row) → length next ≡ 8 → FourHolds next
+pub read-after : (l : List Row) → length l ≡ 8 → FourEach l → (x : Answer) (next : List Row) → length next ≡ 8 → FourEach next
     → (isRefused x ≡ true → next ≡ l) → {t : List ℕ} → t ≡ wordsAfter (tableWords l) x next → rowsRead t ≡ next
 unfolding wordsAfter
 read-after l n h x next m k same e =
@@ -48,13 +50,12 @@ unfolding listFrom
 all-read t p0 p1 p2 p3 p4 p5 p6 p7 = rw (p0, p1, p2, p3, p4, p5, p6, p7) refl
 
 -- the type of a row says that it has four holds
-four-row : (r : Row) (vs : List Val) → Is T.the-row r vs → Four r
+four-row : (r : Row) (vs : List Val) → Is T.the-row r vs → FourHolds r
 four-row r vs is = length-unmapped ℕ (r .holds) 4 (is .1 .1 .1 .1 .0 .1 .0 .1)
 
-pub four-eight : (e : Eight) (vs : List Val) → Is E.the-row e vs → FourHolds (rowsIn e)
+pub four-eight : (e : Eight) (vs : List Val) → Is E.the-row e vs → All FourHolds (rowsIn e)
 four-eight e vs is =
-    let rows = is .1 .1 in
-    four-of-all (
+    let rows = is .1 .1 in (
       four-row (e .r0) _ (rows .0),
       (
         four-row (e .r1) _ (rows .1 .0),

@@ -1,6 +1,7 @@
 -- What a call on rows does: its answer, the control record, each word of the arena and each row of the table, as the model's call
 -- has them.
 use mathlib.Core.Path.{_≡_}
+use mathlib.Core.Bool.{false}
 use mathlib.Core.List.{List, []}
 use Prim.Native.Nat.{ℕ}
 use lib.Dec.{eqb}
@@ -40,6 +41,15 @@ pub record Looks (r : Reply) (o : Outcome) : Type 0 where
 -- the table that has n rows, these where it has eight; of any other length no row is looked at
 unfoldable pub tableOf : ℕ → Eight → List Row
 tableOf n e = pick (eqb n 8) (rowsIn e) []
+
+-- the same of the eight rows by value of a table that has n: where n is not eight, they come back as they were
+pub record DoesRows (n : ℕ) (before : Eight) (d : Done) (a : List ℕ) (o : Outcome) : Type 0 where
+  pub does : Does (d .reply) a (tableOf n (d .rows)) o
+  pub other : eqb n 8 ≡ false → d .rows ≡ before
+
+pub record RunsRows (n : ℕ) (before : Eight) (d : Done) (a l : List ℕ) (o : Ran) : Type 0 where
+  pub runs : Runs (d .reply) a (tableOf n (d .rows)) l o
+  pub other : eqb n 8 ≡ false → d .rows ≡ before
 
 -- 1 "table not eight rows"
 abbrev pub turnedDown : Control → Eight → Done

@@ -1,12 +1,13 @@
 // The calls on eight rows by value: their words are made, `archive` works on them, the rows are read back.
-// The caller says how many rows its table has; of any other number than eight no row is looked at.
+// The caller says how many rows its table has; of any other number than eight no row is looked at, and they come back as they were.
 ghost use mathlib.Core.Path.{_≡_};
+ghost use Rattle.model.specs.Choice.{All};
+ghost use Rattle.model.specs.Rows.{FourHolds};
 ghost use Rattle.model.specs.State.{state};
 ghost use Rattle.model.specs.Steps.{step, freshCall, stepCall, runCall, fillCall, auditCall};
 ghost use Rattle.table.specs.Words.{tableWords, rowRead, rowsRead, putRow};
-ghost use Rattle.table.proofs.FourHolds.{FourHolds};
 ghost use Rattle.rows.specs.Eight.{rowsIn};
-ghost use Rattle.byrow.specs.Does.{Does, Runs, Looks, tableOf, turnedDown};
+ghost use Rattle.byrow.specs.Does.{DoesRows, RunsRows, Looks, tableOf, turnedDown};
 use archive::Reply;
 use model::Answer;
 use model::Control;
@@ -37,7 +38,7 @@ fn get(t: [u32; 96], i: u32) -> Row
 
 // The words of the rows, each of which has four holds.
 fn words_of(rows: Eight) -> [u32; 96]
-    ensures { λ r. ⌜ (r ≡ tableWords (rowsIn rows)) × FourHolds (rowsIn rows) ⌝ }
+    ensures { λ r. ⌜ (r ≡ tableWords (rowsIn rows)) × All FourHolds (rowsIn rows) ⌝ }
 {
     let none = [0; 96];
     let t0 = put(none, 0, rows.r0);
@@ -79,7 +80,7 @@ fn refused(control: Control, rows: Eight) -> Done
 
 // Fresh, on the rows of a table that has n of them.
 pub fn fresh_rows(control: Control, arena: &mut [u32], n: usize, rows: Eight) -> Done
-    ensures { λ r. ⌜ Does (r .reply) (now (arena .exit)) (tableOf n (r .rows))
+    ensures { λ r. ⌜ DoesRows n rows r (now (arena .exit))
         (freshCall (state control (now (arena .entry)) (tableOf n rows))) ⌝ }
 {
     if n != 8 {
@@ -103,7 +104,7 @@ pub fn step_rows(
     b: u32,
     v: u32,
 ) -> Done
-    ensures { λ r. ⌜ Does (r .reply) (now (arena .exit)) (tableOf n (r .rows))
+    ensures { λ r. ⌜ DoesRows n rows r (now (arena .exit))
         (stepCall (state control (now (arena .entry)) (tableOf n rows)) (step who code a b v)) ⌝ }
 {
     if n != 8 {
@@ -124,7 +125,7 @@ pub fn run_rows(
     steps: &[u32],
     answers: &mut [u32],
 ) -> Done
-    ensures { λ r. ⌜ Runs (r .reply) (now (arena .exit)) (tableOf n (r .rows)) (now (answers .exit))
+    ensures { λ r. ⌜ RunsRows n rows r (now (arena .exit)) (now (answers .exit))
         (runCall (state control (now (arena .entry)) (tableOf n rows)) (now (steps .entry)) (now (answers .entry))) ⌝ }
 {
     if n != 8 {

@@ -17,8 +17,9 @@ use Rattle.model.specs.Steps.{Ran}
 use Rattle.table.specs.Words.{tableWords}
 use Rattle.wire.specs.Bytes.{allBytes}
 use Rattle.archive.specs.declared.Reply.{Reply}
-use Rattle.archive.specs.Does.{isRefused, wordsAfter, CallDoes, RunDoes}
-use Rattle.buffer.specs.Buffer.{stateIn, bytesIn, bytesOf}
+use Rattle.archive.specs.Does.{meant, isRefused, wordsAfter, CallDoes, RunDoes}
+use Rattle.buffer.specs.Buffer.{Decoded, stateIn, bytesIn, bytesOf}
+use Rattle.buffer.proofs.RoundTrip.{state-decoded}
 use Rattle.headend.specs.Exported.{coded, wrongBuffer, kept, called, exported, runBytesFit, runOn, ranBytes, runBytes, CallGives}
 use Rattle.headend.specs.Exported.{Finishes, RunGives}
 
@@ -41,9 +42,9 @@ module _ (b : List ℕ) (call : State → Outcome) where
   right-size e = rw (eq-eqb (length b) 33820 e)
 
   -- fill and audit
-  pub look-gives : {r : ℕ} {x : Answer} (s : State) → length b ≡ 33820 → s ≡ stateIn b → r ≡ coded x → x ≡ call s .answer
-      → r ≡ exported b call .result
-  look-gives s e d p q = rw (right-size e, ← d) (p ∙ ap coded q)
+  pub look-gives : {r : ℕ} {x : Answer} {c : Control} {arena table : List ℕ} → length b ≡ 33820 → Decoded c arena table b → r ≡ coded x
+      → x ≡ call (meant c arena table) .answer → r ≡ exported b call .result
+  look-gives e d p q = rw (right-size e, ← state-decoded d) (p ∙ ap coded q)
 
 -- a refused call's table does not matter: nothing of it is written
 same-bytes : (t : Bool) (b : List ℕ) (c : Control) (a before rows : List ℕ)
@@ -58,11 +59,12 @@ module _ (b before : List ℕ) (r : Reply) (a t : List ℕ) where
   left-bytes x s e f g h = rw (e, f, g, h) (same-bytes (isRefused x) b (s .control) (s .arena) before (tableWords (s .table)))
 
   -- fresh and step
-  pub call-gives : (call : State → Outcome) (s : State) {n : ℕ} {after : List ℕ} → length b ≡ 33820 → s ≡ stateIn b
-      → CallDoes before r a t (call s) → Finishes n after b (r .answer) (bytesIn (r .control) a t) → CallGives n after (exported b call)
-  call-gives call s e d D F =
-      let o = call s in
-      rw (right-size b call e, ← d)
+  pub call-gives : (call : State → Outcome) {c : Control} {arena : List ℕ} {n : ℕ} {after : List ℕ} → length b ≡ 33820
+      → Decoded c arena before b → CallDoes before r a t (call (meant c arena before))
+      → Finishes n after b (r .answer) (bytesIn (r .control) a t) → CallGives n after (exported b call)
+  call-gives call {c} {arena} e d D F =
+      let o = call (meant c arena before) in
+      rw (right-size b call e, ← state-decoded d)
       (record {
         result = F .result ∙ ap coded (D .answer);
         bytes = F .bytes ∙ left-bytes (o .answer) (o .next) (D .answer) (D .control) (D .arena) (D .table);

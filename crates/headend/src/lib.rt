@@ -141,7 +141,7 @@ fn run_fits(steps: usize, slots: usize) -> bool
     slots == 8 * (steps / 20)
 }
 
-// The run in words: as many of steps and answers as are lent.
+// The run, where all sizes fit: steps and slots are read into `words` and `answers`, as many words as they have.
 fn run_words(
     buffer: &mut [u8],
     steps: &[u8],

@@ -11,7 +11,8 @@ use Rattle.model.specs.Choice.{pick}
 use Rattle.model.specs.Arena.{cells, none, cellsAt, lowestRun}
 use Rattle.model.specs.State.{entry}
 use Rattle.model.specs.Refusals.{_if_, refuse, isNone, admitRefusals}
-use Rattle.model.proofs.Refusals.{given, refused-by-given, accepted-by-given}
+use Rattle.model.specs.Refusals.{given}
+use Rattle.model.proofs.Refusals.{refused-by-given, accepted-by-given}
 use Rattle.keeper.specs.Kept.{refusedKept, recordRefusals, newRefusals, retiredKept, retireStep, begunKept, beginStep}
 
 -- no line applied, where the number found is not above 0

@@ -1,3 +1,4 @@
 pub mod Shared
 pub mod Locals
+pub mod Takes
 pub mod Lifts

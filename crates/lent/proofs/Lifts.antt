@@ -12,12 +12,13 @@ use Rattle.model.specs.declared.Row.{Row}
 use Rattle.model.specs.declared.Control.{Control}
 use Rattle.model.specs.State.{State, state, Outcome}
 use Rattle.model.specs.Steps.{refused, wrongSize, runCall, Ran}
+use Rattle.model.proofs.Calls.{run-wrong-size}
 use Rattle.rows.specs.declared.Eight.{Eight}
 use Rattle.rows.specs.Eight.{rowsIn, taken, putBack}
 use Rattle.rows.proofs.Lists.{eight-rows, taken-eight, put-eight, put-other}
 use Rattle.archive.specs.declared.Reply.{Reply}
 use Rattle.byrow.specs.Does.{Does, Runs, Looks, tableOf}
-use Rattle.byrow.proofs.Calls.{Tests, Call, run-wrong, run-is}
+use Rattle.byrow.proofs.Calls.{Tests, Call, run-is}
 use Rattle.byrow.proofs.ReadBack.{these-rows, no-rows, wrong-length, refused-so}
 
 taken-back : (t : List Row) (e : Eight) → e ≡ taken t → length t ≡ 8 → tableOf (length t) e ≡ t
@@ -72,4 +73,4 @@ module _ (c : Control) (a : List ℕ) (t : List Row) (e : Eight) (out : e ≡ ta
       }
     where
       slots-kept : (s : State) → wrongSize s ≡ true → runCall s ws slots .slots ≡ slots
-      slots-kept s h = ap (λ (r : Ran). r .slots) (run-wrong ws slots s h)
+      slots-kept s h = ap (λ (r : Ran). r .slots) (run-wrong-size s ws slots h)

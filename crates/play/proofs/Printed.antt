@@ -23,14 +23,15 @@ use Rattle.table.specs.Words.{tableWords, rowsRead}
 use Rattle.table.proofs.FourHolds.{four-of-all}
 use Rattle.table.proofs.Rows.{rows-read}
 use Rattle.archive.specs.Does.{meant}
-use Rattle.script.specs.declared.Parsed.{Parsed}
 use Rattle.script.specs.declared.Parsed.the-variants.{Bad, Script}
 use Rattle.script.specs.Lines.{parse, numbersAt}
 use Rattle.script.specs.Printing.{Page, page, put, written, line1, badFile, tooLong}
 use Rattle.script.specs.Replay.{admissionsFrom, answerLines, fiveTotals, totalLines, printed, admissionsRun, stepsRun, replayText}
+use Rattle.script.proofs.Accepted.{not-script}
 use Rattle.script.proofs.Pages.{put-room, put-full, written-append}
 use Rattle.script.proofs.Replay.{replay-too-long, replay-bad, replay-script}
-use Rattle.script.proofs.Room.{written-whole, Totals, Sized, SizedRuns, replay-short}
+use Rattle.script.specs.Sizes.{Totals, Sized}
+use Rattle.script.proofs.Room.{written-whole, SizedRuns, replay-short}
 use Rattle.play.specs.declared.Played.{Played}
 use Rattle.play.specs.Plays.{sectionRun, Holds, Plays, Performs, Prints}
 use Rattle.play.proofs.Sections.{admissions-are, steps-are, Reach, run-reaches, meant-by, fresh-reach}
@@ -146,14 +147,11 @@ pub prints-too-long : (s before out : List ℕ) (r : ℕ) → 65536 < length s �
     → Prints before out r (replayText s)
 prints-too-long s before out r h e = rw (replay-too-long s h) (prints-by before out r tooLong e (omega arith))
 
-no-script : {A : Type 0} {n m at k start : ℕ} (x : Parsed) → x ≡ Bad n → x ≡ Script m at k start → A
-no-script x p q = let z : _≡_ {A = ℕ} 0 1 = cc in absurd (omega arith)
-
 pub prints-bad : (s before out : List ℕ) (r : ℕ) {n : ℕ} → length s ≤ 65536 → parse s ≡ Bad n
     → page out r ≡ written (page before 0) (badFile n) → Prints before out r (replayText s)
 prints-bad s before out r {n} h e f =
     prints-by before out r (replayText s) (f ∙ ap (written (page before 0)) (sym (replay-bad s n h e)))
-    (replay-short s (λ m at k start g. no-script (parse s) e g))
+    (replay-short s (λ m at k start g. not-script (parse s) e g))
 
 sized-runs : (s : List ℕ) (m at k start : ℕ) → parse s ≡ Script m at k start
     → Sized (admissionsRun s m at) (stepsRun s k start (admissionsRun s m at)) → SizedRuns s

@@ -6,7 +6,7 @@ use mathlib.Core.Logic.{⊎-elim}
 use mathlib.Core.List.{List, [], _∷_}
 use Prim.Native.Nat.{ℕ, zero, suc, _+_, _-_, _*_, _≤_}
 use native.Mathlib.Omega.{arith}
-use lib.ListN.{length, getD, drop, replicate, length-replicate}
+use lib.ListN.{length, getD, drop, replicate, length-replicate, List·getD-eq-default}
 use lib.Seq.{sets, sets-eq, getD-append-add, getD-drop}
 use Rattle.model.specs.declared.Control.{Control}
 use Rattle.model.specs.State.{State, fresh, outcome}
@@ -14,6 +14,7 @@ use Rattle.model.specs.Steps.{Step, act, oneByOne, stepsFrom, wrongSize, freshC
 use Rattle.model.specs.declared.Answer.the-variants.{Done}
 use Rattle.model.proofs.Choice.{order}
 use Rattle.model.proofs.Says.{getD-fresh}
+use Rattle.model.proofs.Calls.{fresh-succeeds}
 use Rattle.demands.specs.Log.{after}
 use Rattle.archive.specs.declared.Reply.{Reply}
 use Rattle.archive.specs.Does.{meant, wordsAfter, CallDoes}
@@ -31,11 +32,6 @@ use Rattle.play.specs.Plays.{stepsIn, perLine, runIn, sectionRun, Holds,
 use Rattle.play.proofs.Steps.{meant-is}
 
 -- numbers laid out over zeros: the same numbers, and zeros behind them
-beyond : (vs : List ℕ) (i : ℕ) → length vs ≤ i → _≡_ {A = ℕ} (getD vs i 0) 0
-beyond [] i h = refl
-beyond (v ∷ vs) zero h = absurd (omega arith)
-beyond (v ∷ vs) (suc i) h = beyond vs i (omega arith)
-
 behind : (n : ℕ) (vs : List ℕ) (j : ℕ) → length vs ≤ n → _≡_ {A = ℕ} (getD (sets (replicate n 0) 0 vs) (length vs + j) 0) 0
 behind n vs j h =
     rw (sets-eq vs (replicate n 0) 0 (rw length-replicate (omega arith)))
@@ -46,7 +42,7 @@ pub laid-out : (n : ℕ) (vs : List ℕ) (i : ℕ) → length vs ≤ n → getD 
 laid-out n vs i h =
     ⊎-elim (λ k. words-there (replicate n 0) vs i (rw length-replicate h) k)
     (λ k. let e : i ≡ length vs + (i - length vs) = omega arith in
-    rw (beyond vs i k) (ap (λ (j : ℕ). getD (sets (replicate n 0) 0 vs) j 0) e ∙ behind n vs (i - length vs) h))
+    rw (List·getD-eq-default vs 0 {n = i} k) (ap (λ (j : ℕ). getD (sets (replicate n 0) 0 vs) j 0) e ∙ behind n vs (i - length vs) h))
     (order i (length vs))
 
 pub steps-laid-out : (n : ℕ) (vs : List ℕ) → length vs ≤ n → (admission : Bool) (i k : ℕ)
@@ -124,15 +120,16 @@ pub fresh-reach : Reach fresh
 fresh-reach = record { steps = []; is = refl }
 
 -- a fresh archive
-fresh-right : (c : Control) (a t : List ℕ) → length a ≡ 8192 → length t ≡ 96 → freshCall (meant c a t) ≡ outcome (Done 0) fresh
-unfolding freshCall wrongSize
-fresh-right c a t ea et = rw (ea, length-rows t et)
+right-words : (c : Control) (a t : List ℕ) → length a ≡ 8192 → length t ≡ 96 → wrongSize (meant c a t) ≡ false
+unfolding wrongSize
+right-words c a t ea et = rw (ea, length-rows t et) refl
 
 pub fresh-holds : (c : Control) {r : Reply} {b u : List ℕ}
     → CallDoes (replicate 96 0) r b u (freshCall (meant c (replicate 8192 0) (replicate 96 0))) → Holds fresh (r .control) b u
 unfolding wordsAfter
 fresh-holds c {r} {b} {u} D =
     let words : (n : ℕ) → length {A = ℕ} (replicate n 0) ≡ n = λ n. length-replicate n 0 in
+    let right = right-words c (replicate 8192 0) (replicate 96 0) (words 8192) (words 96) in
     let E : CallDoes (replicate 96 0) r b u (outcome (Done 0) fresh) =
-    rw (fresh-right c (replicate 8192 0) (replicate 96 0) (words 8192) (words 96)) at D in
+    rw (fresh-succeeds (meant c (replicate 8192 0) (replicate 96 0)) right) at D in
     record { control = E .control; arena = E .arena; table = E .table }

@@ -1,19 +1,18 @@
 -- Steps one by one on what is lent. What is lent was reached from fresh, so that the library's step is the model's; at each turn the steps
 -- left lead to the page and the state that all of them lead to. Assumes nothing.
 use mathlib.Core.Path.{_≡_, refl, sym, ap, _∙_}
-use mathlib.Core.Bool.{Bool}
+use mathlib.Core.Bool.{Bool, true}
 use mathlib.Core.Logic.{⊎-elim}
 use mathlib.Core.List.{List, [], _∷_}
 use Prim.Native.Nat.{ℕ, suc, _+_, _-_, _≤_, _<_}
 use native.Mathlib.Numerals.{add-one}
 use native.Mathlib.Omega.{arith}
 use borrow.Author.Tests.{le-leb, lt-leb}
-use lib.Dec.{T}
 use Rattle.model.specs.declared.Control.{Control}
-use Rattle.model.specs.State.{State, Outcome, number, value}
+use Rattle.model.specs.State.{State, Outcome, number, value, numberOf01, Answered}
 use Rattle.model.specs.Steps.{Step, act, stepCall, Ran, oneByOne}
-use Rattle.model.proofs.Choice.{order}
-use Rattle.model.proofs.Answered.{numberOf01, Answered, answered}
+use Rattle.model.proofs.Choice.{clash, order}
+use Rattle.model.proofs.Answered.{answered}
 use Rattle.demands.specs.Log.{after}
 use Rattle.demands.proofs.Kept.{after-sizes}
 use Rattle.demands.proofs.Runs.{step-after}
@@ -28,7 +27,7 @@ use Rattle.script.specs.Printing.{Page, page, written, line2}
 use Rattle.script.specs.Replay.{answerLines}
 use Rattle.script.proofs.Pages.{written-append}
 use Rattle.script.proofs.Replay.{answers-more}
-use Rattle.script.proofs.Room.{Short, none, more}
+use Rattle.script.specs.Sizes.{Short, none, more}
 use Rattle.play.specs.declared.Played.{Played}
 use Rattle.play.specs.Plays.{stepIn, stepsIn, numbersOf, stepOf, oneStep, Holds, Reached, Plays}
 
@@ -49,17 +48,17 @@ meant-holds {c} {a} {t} R =
     }
 
 -- 01's numbers have two digits
-tabled-small : (n : ℕ) → T (numberOf01 n) → n < 100
+tabled-small : (n : ℕ) → numberOf01 n ≡ true → n < 100
 tabled-small n t =
     ⊎-elim (λ h. h)
-    (λ h. absurd (simp (
+    (λ h. clash (numberOf01 n) t (simp (
       le-leb 1 n (omega arith),
       le-leb 20 n (omega arith),
       le-leb 30 n (omega arith),
       lt-leb n 15 (omega arith),
       lt-leb n 27 (omega arith),
       lt-leb n 35 (omega arith),
-    ) at t))
+    )))
     (order n 100)
 
 -- one line

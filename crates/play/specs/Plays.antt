@@ -13,7 +13,7 @@ use Rattle.turns.specs.declared.Numbers.{Numbers}
 use Rattle.script.specs.Lines.{numbersAt}
 use Rattle.script.specs.Printing.{Page, page, written}
 use Rattle.script.specs.Replay.{admissionAt, answerLines, printed, admissionsRun, stepsRun}
-use Rattle.script.proofs.Room.{Short, Sized}
+use Rattle.script.specs.Sizes.{Short, Sized}
 use Rattle.play.specs.declared.Played.{Played}
 
 -- "admissions `meter kind`, steps `who code a b v`": line i of a section, and the n lines from i on

@@ -74,7 +74,7 @@ fn numbers_in(admission: bool, count: u32) -> usize
     }
 }
 
-// A step, and "answer and value" of it.
+// A step on what steps from fresh have reached, and its line: "answer and value".
 fn play_step(
     control: Control,
     arena: &mut [u32],

@@ -1,8 +1,9 @@
--- What is known of a text that is accepted: it is the text of its numbers, all of which are there, and takes two bytes for each at least.
+-- What is known of a text that is accepted: it is the text of its numbers, all of which are there and at most 4294967295, and takes two
+-- bytes for each at least.
 use mathlib.Core.Path.{_≡_, refl, sym, subst, ap, _∙_}
 use mathlib.Core.Bool.{Bool, true, false}
 use mathlib.Core.List.{List, [], _∷_, _++_, append-assoc, append-nil}
-use Prim.Native.Nat.{ℕ, zero, suc, _+_, _-_, _*_, _≤_, _<_}
+use Prim.Native.Nat.{ℕ, zero, suc, _+_, _*_, _≤_, _<_}
 use native.Mathlib.Nat.{suc-mul, zero-mul, mul-comm}
 use native.Mathlib.Omega.{arith}
 use borrow.Author.Tests.{eqb-true}
@@ -23,7 +24,7 @@ use Rattle.script.specs.Printing.{decimal, line1}
 use Rattle.script.specs.Lines.{marked, fieldAt, lineAt, linesAt, counted, sectionOf, sectionAt, scriptOf, stepsBehind, parse}
 use Rattle.script.specs.Lines.{numbersAt}
 use Rattle.script.proofs.Numbers.{in-text, picked, number-takes}
-use Rattle.script.specs.Texts.{lineRest, lineText, linesText, scriptText}
+use Rattle.script.specs.Texts.{lineRest, lineText, linesText, scriptText, Small, none, more, ScriptNumbers}
 use Rattle.script.proofs.Decimal.{number-stands}
 use Rattle.script.proofs.Lines.{line-ends, line-goes-on, line-breaks, lines-end, lines-go-on, lines-break, numbers-none}
 use Rattle.script.proofs.Lines.{numbers-go-on}
@@ -85,6 +86,7 @@ record Line (s : List ℕ) (spaces at next : ℕ) : Type 0 where
   pub takes : at + 2 * spaces + 2 ≤ next
   pub splits : (r : ℕ) → numbersAt s (suc spaces + r) at ≡ numbersAt s (suc spaces) at ++ numbersAt s r next
   pub whole : length (numbersAt s (suc spaces) at) ≡ suc spaces
+  pub small : Small (numbersAt s (suc spaces) at)
   pub stands : drop at s ≡ lineText (numbersAt s (suc spaces) at) ++ drop next s
 
 last-number : (s : List ℕ) (at v next : ℕ) → Field s 10 at v next → Line s 0 at next
@@ -96,6 +98,7 @@ last-number s at v next f =
       splits = λ r. ap (λ (n : ℕ). numbersAt s n at) (omega arith) ∙ field-splits f r
           ∙ ap (λ (l : List ℕ). l ++ numbersAt s r next) (sym one);
       whole = ap length one;
+      small = rw one (more (field-takes f .1) none);
       stands = rw one (field-stands f (omega arith) ∙ sym (append-assoc (decimal v) (10 ∷ []) (drop next s)));
     }
 
@@ -110,6 +113,7 @@ number-before s spaces at w m next f l =
       splits = λ r. ap (λ (n : ℕ). numbersAt s n at) (omega arith) ∙ field-splits f (suc spaces + r)
           ∙ ap (λ (x : List ℕ). w ∷ x) (l .splits r) ∙ ap (λ (x : List ℕ). x ++ numbersAt s r next) (sym all);
       whole = ap length all ∙ ap suc (l .whole);
+      small = rw all (more (field-takes f .1) (l .small));
       stands = rw (all, rest-is-line ns long)
           (field-stands f (omega arith) ∙ ap (λ (x : List ℕ). decimal w ++ (32 ∷ x)) (l .stands)
           ∙ sym (append-assoc (decimal w) (32 ∷ lineText ns) (drop next s)));
@@ -127,17 +131,27 @@ line-is : (s : List ℕ) (spaces at v next : ℕ) → lineAt s spaces at ≡ Num
 line-is s zero at v next e = last-number s at v next (field-is s 10 at v next (sym (line-ends s at) ∙ e))
 line-is s (suc spaces) at v next e = line-by s spaces at v next (fieldAt s 32 at) refl e (λ m. line-is s spaces m v next)
 
+small-append : {l : List ℕ} {m : List ℕ} → Small l → Small m → Small (l ++ m)
+small-append none q = q
+small-append (more h p) q = more h (small-append p q)
+
 -- so many lines
 record Block (s : List ℕ) (count spaces at next : ℕ) : Type 0 where
   pub takes : at + count * (2 * spaces + 2) ≤ next
   pub whole : length (numbersAt s (count * suc spaces) at) ≡ count * suc spaces
+  pub small : Small (numbersAt s (count * suc spaces) at)
   pub stands : drop at s ≡ linesText count (suc spaces) (numbersAt s (count * suc spaces) at) ++ drop next s
 
 no-lines : (s : List ℕ) (spaces at : ℕ) → Block s 0 spaces at at
 unfolding linesText
 no-lines s spaces at =
-    let none : numbersAt s (0 * suc spaces) at ≡ [] = ap (λ (n : ℕ). numbersAt s n at) (zero-mul (suc spaces)) ∙ numbers-none s at in
-    record { takes = rw zero-mul (omega arith); whole = ap length none ∙ sym (zero-mul (suc spaces)); stands = refl }
+    let empty : numbersAt s (0 * suc spaces) at ≡ [] = ap (λ (n : ℕ). numbersAt s n at) (zero-mul (suc spaces)) ∙ numbers-none s at in
+    record {
+      takes = rw zero-mul (omega arith);
+      whole = ap length empty ∙ sym (zero-mul (suc spaces));
+      small = rw empty none;
+      stands = refl;
+    }
 
 line-before : (s : List ℕ) (count spaces at m next : ℕ) → Line s spaces at m → Block s count spaces m next
     → Block s (suc count) spaces at next
@@ -151,6 +165,7 @@ line-before s count spaces at m next l b =
     record {
       takes = rw suc-mul (omega (arith, l .takes, b .takes));
       whole = ap length all ∙ length-append a r ∙ omega (arith, l .whole, b .whole, suc-mul count w);
+      small = rw all (small-append (l .small) (b .small));
       stands = rw (all, take-at a r w (l .whole), drop-at a r w (l .whole))
           (l .stands ∙ ap (λ (x : List ℕ). lineText a ++ x) (b .stands)
           ∙ sym (append-assoc (lineText a) (linesText count w r) (drop next s)));
@@ -177,8 +192,9 @@ lines-are s (suc count) spaces first at next e =
 -- a section: its count's line and its lines
 record Section (s : List ℕ) (spaces at count start next : ℕ) : Type 0 where
   pub takes : at + 2 + count * (2 * spaces + 2) ≤ next
-  pub small : count ≤ 4294967295
+  pub few : count ≤ 4294967295
   pub whole : length (numbersAt s (count * suc spaces) start) ≡ count * suc spaces
+  pub small : Small (numbersAt s (count * suc spaces) start)
   pub stands : drop at s ≡ (line1 count ++ linesText count (suc spaces) (numbersAt s (count * suc spaces) start)) ++ drop next s
 
 count-before : (s : List ℕ) (spaces at c st next : ℕ) → Field s 10 at c st → Block s c spaces st next → Section s spaces at c st next
@@ -188,8 +204,9 @@ count-before s spaces at c st next f b =
     let t = field-takes f in
     record {
       takes = omega (arith, t .0, b .takes);
-      small = t .1;
+      few = t .1;
       whole = b .whole;
+      small = b .small;
       stands = field-stands f (omega arith) ∙ ap (λ (x : List ℕ). decimal c ++ (10 ∷ x)) (b .stands) ∙ sym (simp append-assoc);
     }
 
@@ -218,13 +235,10 @@ section-is s spaces first at count start next e = section-by s spaces first at c
 -- A script: four bytes for each admission, ten for each step, two for each count; all its numbers are there; and it is their text.
 pub record Fits (s : List ℕ) (admissions at steps start : ℕ) : Type 0 where
   pub bytes : 4 * admissions + 10 * steps + 4 ≤ length s
-  pub few-admissions : admissions ≤ 4294967295
-  pub few-steps : steps ≤ 4294967295
-  pub admission-words : length (numbersAt s (2 * admissions) at) ≡ 2 * admissions
-  pub step-words : length (numbersAt s (5 * steps) start) ≡ 5 * steps
+  pub numbers : ScriptNumbers admissions (numbersAt s (2 * admissions) at) steps (numbersAt s (5 * steps) start)
   pub stands : s ≡ scriptText admissions (numbersAt s (2 * admissions) at) steps (numbersAt s (5 * steps) start)
 
-not-script : {A : Type 0} {n m at k start : ℕ} (x : Parsed) → x ≡ Bad n → x ≡ Script m at k start → A
+pub not-script : {A : Type 0} {n m at k start : ℕ} (x : Parsed) → x ≡ Bad n → x ≡ Script m at k start → A
 not-script x p q = let z : _≡_ {A = ℕ} 0 1 = cc in absurd (omega arith)
 
 chosen : (s : List ℕ) (x : Bool) (n m at k start m′ at′ k′ start′ : ℕ) → pick x (Script m at k start) (Bad n) ≡ Script m′ at′ k′ start′
@@ -259,10 +273,15 @@ script-by-steps s m at next m′ at′ k start (Lines steps st end) f t e =
     let fits : Fits s m at steps st =
     record {
       bytes = omega (arith, t .takes, u .takes);
-      few-admissions = t .small;
-      few-steps = u .small;
-      admission-words = rw (mul-comm 2 m) (t .whole);
-      step-words = rw (mul-comm 5 steps) (u .whole);
+      numbers =
+          record {
+            few-admissions = t .few;
+            few-steps = u .few;
+            two-each = rw (mul-comm 2 m) (t .whole);
+            five-each = rw (mul-comm 5 steps) (u .whole);
+            small-admissions = rw (mul-comm 2 m) (t .small);
+            small-steps = rw (mul-comm 5 steps) (u .small);
+          };
       stands = rw (mul-comm 2 m, mul-comm 5 steps) (both-stand s m at steps st next end t u z);
     } in
     chosen s (eqb end (length s)) (m + steps + 3) m at steps st m′ at′ k start e fits
@@ -318,12 +337,12 @@ bad-by-steps : (s : List ℕ) (m at next n : ℕ) (y : Part) → sectionAt s 4 (
     → n < 10000000000
 bad-by-steps s m at next n (WrongLine k) f h e = let z : k ≡ n = cc in omega (arith, section-wrong s 4 (m + 2) next k f)
 bad-by-steps s m at next n (Lines steps st end) f h e =
-    omega (arith, refused (eqb end (length s)) m at steps st (m + steps + 3) n e, section-is s 4 (m + 2) next steps st end f .small)
+    omega (arith, refused (eqb end (length s)) m at steps st (m + steps + 3) n e, section-is s 4 (m + 2) next steps st end f .few)
 
 bad-by : (s : List ℕ) (n : ℕ) (x : Part) → sectionAt s 1 1 0 ≡ x → stepsBehind s x ≡ Bad n → n < 10000000000
 bad-by s n (WrongLine k) f e = let z : k ≡ n = cc in omega (arith, section-wrong s 1 1 0 k f)
 bad-by s n (Lines a st next) f e =
-    bad-by-steps s a st next n (sectionAt s 4 (a + 2) next) refl (section-is s 1 1 0 a st next f .small) e
+    bad-by-steps s a st next n (sectionAt s 4 (a + 2) next) refl (section-is s 1 1 0 a st next f .few) e
 
 pub bad-low : (s : List ℕ) (n : ℕ) → parse s ≡ Bad n → n < 10000000000
 unfolding parse

@@ -2,7 +2,7 @@
 use mathlib.Core.Path.{_≡_, refl, sym, ap, _∙_}
 use mathlib.Core.Bool.{false}
 use mathlib.Core.List.{List, [], _∷_, _++_, append-assoc, append-nil}
-use Prim.Native.Nat.{ℕ, zero, suc, _+_, _-_, _*_, _≤_, _<_}
+use Prim.Native.Nat.{ℕ, zero, suc, _+_, _*_, _≤_, _<_}
 use native.Mathlib.Nat.{suc-mul, zero-mul, mul-comm}
 use native.Mathlib.Omega.{arith}
 use lib.ListN.{length, getD, take, drop, length-drop, take-append-drop}
@@ -18,12 +18,7 @@ use Rattle.script.proofs.Lines.{field-marked, line-ends, line-goes-on, 
 use Rattle.script.proofs.Lines.{numbers-go-on, section-counted, parse-by, script-ends}
 use Rattle.script.proofs.Numbers.{in-text}
 use Rattle.script.proofs.Decimal.{number-reads}
-use Rattle.script.specs.Texts.{lineRest, lineText, linesText, scriptText}
-
--- "Decimal numbers to 4294967295"
-pub data Small : List ℕ → Type 0 where
-  none : Small []
-  more : {n : ℕ} {l : List ℕ} → n ≤ 4294967295 → Small l → Small (n ∷ l)
+use Rattle.script.specs.Texts.{lineRest, lineText, linesText, scriptText, Small, none, more, ScriptNumbers}
 
 small-take : (w : ℕ) {l : List ℕ} → Small l → Small (take w l)
 small-take zero p = none
@@ -200,11 +195,13 @@ both-read s m words k others rest a b =
       step-words = rw (mul-comm 5 k) (b .numbers);
     }
 
-pub script-reads : (m : ℕ) (words : List ℕ) (k : ℕ) (others : List ℕ) → m ≤ 4294967295 → k ≤ 4294967295
-    → length words ≡ 2 * m → length others ≡ 5 * k → Small words → Small others → ScriptRead (scriptText m words k others) m words k others
+pub script-reads : (m : ℕ) (words : List ℕ) (k : ℕ) (others : List ℕ) → ScriptNumbers m words k others
+    → ScriptRead (scriptText m words k others) m words k others
 unfolding scriptText
-script-reads m words k others p q wl ml ws ms =
+script-reads m words k others N =
+    let s : List ℕ = scriptText m words k others in
     let steps : List ℕ = line1 k ++ linesText k 5 others in
-    let a = section-reads (scriptText m words k others) 1 1 0 m words steps p (omega arith) ws refl in
-    both-read (scriptText m words k others) m words k others steps a
-    (section-reads (scriptText m words k others) 4 (m + 2) (a .next) k others [] q (omega arith) ms (a .left ∙ sym (append-nil steps)))
+    let a = section-reads s 1 1 0 m words steps (N .few-admissions) (omega (arith, N .two-each)) (N .small-admissions) refl in
+    both-read s m words k others steps a
+    (section-reads s 4 (m + 2) (a .next) k others [] (N .few-steps) (omega (arith, N .five-each)) (N .small-steps)
+    (a .left ∙ sym (append-nil steps)))

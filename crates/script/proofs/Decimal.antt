@@ -10,11 +10,11 @@ use lib.Dec.{eqb, ltb}
 use lib.ListN.{length, getD, drop, length-append, List·getD-append}
 use lib.Seq.{getD-drop, drop-drop}
 use Rattle.model.specs.Choice.{_or_}
-use Rattle.model.proofs.Choice.{clash, order}
+use Rattle.model.proofs.Choice.{clash, and-no, order}
 use Rattle.script.specs.declared.Found.the-variants.{Number}
 use Rattle.script.specs.Numbers.{isDigit, digits, valueFrom, proper, numberAt}
 use Rattle.script.specs.Printing.{decimal}
-use Rattle.script.proofs.Numbers.{and-false, digit-low, digit-high, digits-front, digits-stop, digits-empty, some-digits, picked}
+use Rattle.script.proofs.Numbers.{digit-low, digit-high, digits-front, digits-stop, digits-empty, some-digits, picked}
 use Rattle.script.proofs.Pages.{decimal-small, decimal-more}
 
 -- bytes that are all digits
@@ -49,7 +49,7 @@ no-zero : (first count v : ℕ) → proper first count v ≡ true → 1 < count 
 unfolding proper
 no-zero first count v e h z =
     clash (proper first count v) e
-    (simp (ne-eqb count 0 (λ p. omega arith), ne-eqb count 1 (λ p. omega arith), eq-eqb first 48 z) (and-false (not (ltb 4294967295 v))))
+    (simp (ne-eqb count 0 (λ p. omega arith), ne-eqb count 1 (λ p. omega arith), eq-eqb first 48 z) (and-no (not (ltb 4294967295 v))))
 
 -- proper digits are the decimal form of what they write
 proper-decimal : (first : ℕ) {ds : List ℕ} → Digits ds → first ≡ getD ds 0 0 → proper first (length ds) (valueFrom 0 ds) ≡ true

@@ -10,15 +10,11 @@ use borrow.Author.Tests.{leb-true, lt-ltb, le-ltb}
 use lib.Dec.{eqb, leb}
 use lib.ListN.{length, getD, drop, drop-of-length-le, length-drop, List·getD-eq-default}
 use lib.Seq.{drop-cons}
-use Rattle.model.specs.Choice.{pick, _and_}
-use Rattle.model.proofs.Choice.{clash, and-parts, order}
+use Rattle.model.specs.Choice.{pick}
+use Rattle.model.proofs.Choice.{clash, and-parts, and-no, order}
 use Rattle.script.specs.declared.Scanned.{Scanned}
 use Rattle.script.specs.declared.Found.the-variants.{Number, Nothing}
 use Rattle.script.specs.Numbers.{isDigit, digits, valueFrom, proper, numberOf, numberAt, capped, scanned}
-
-pub and-false : (p : Bool) → (p and false) ≡ false
-and-false true = refl
-and-false false = refl
 
 -- only a place within the text holds a byte other than 0
 pub in-text : (s : List ℕ) (i : ℕ) → 0 < getD s i 0 → i < length s
@@ -109,7 +105,7 @@ proper-capped first count v =
 
 not-proper : (first count v : ℕ) → 4294967295 < v → proper first count v ≡ false
 unfolding proper
-not-proper first count v h = simp (lt-ltb 4294967295 v h) (and-false (not (eqb count 0)))
+not-proper first count v h = simp (lt-ltb 4294967295 v h) (and-no (not (eqb count 0)))
 
 -- the digits of v by a cap are those of v, or not proper
 number-of : (at first : ℕ) (ds : List ℕ)

@@ -1,20 +1,18 @@
 -- Laws of the whole program: its three ways, and a run's lines one step at a time.
 use mathlib.Core.Path.{_≡_}
 use mathlib.Core.List.{List, _∷_}
-use Prim.Native.Nat.{ℕ, zero, suc, _+_, _-_, _≤_, _<_}
-use native.Mathlib.Numerals.{add-one}
+use Prim.Native.Nat.{ℕ, _+_, _≤_, _<_}
 use native.Mathlib.Omega.{arith}
 use borrow.Author.Tests.{lt-ltb, le-ltb}
 use lib.ListN.{length, getD, drop, List·getD-append}
 use lib.Seq.{sets, sets-eq}
 use Rattle.model.specs.State.{State, Outcome, number, value}
-use Rattle.model.specs.Steps.{Step, oneByOne, stepAt, stepsFrom}
+use Rattle.model.specs.Steps.{Step, oneByOne}
 use Rattle.script.specs.declared.Parsed.{Parsed}
 use Rattle.script.specs.declared.Parsed.the-variants.{Bad, Script}
 use Rattle.script.specs.Lines.{parse}
 use Rattle.script.specs.Printing.{line1, line2, badFile, tooLong, Page, written}
 use Rattle.script.specs.Replay.{answerLines, fiveTotals, printed, admissionsRun, stepsRun, replayed, replayText}
-use Rattle.script.proofs.Lines.{less-one}
 use Rattle.script.proofs.Pages.{written-append}
 
 -- "at most 65,536 bytes (else prints `too long`)"
@@ -43,12 +41,6 @@ pub answers-more : (p : Page) (f : State → Step → Outcome) (s : State) (t : 
 unfolding answerLines
 answers-more p f s t l =
     written-append p (line2 (number (f s t .answer)) (value (f s t .answer))) (answerLines (oneByOne f (f s t .next) l .slots))
-
--- one step less of those that are left
-pub steps-more : (words : List ℕ) (i left : ℕ) → 0 < left → stepsFrom words i left ≡ stepAt words i ∷ stepsFrom words (i + 1) (left - 1)
-unfolding stepsFrom
-steps-more words i zero h = absurd (omega arith)
-steps-more words i (suc n) h = rw (less-one n, add-one i)
 
 -- numbers laid out as words are read back
 pub words-there : (words vs : List ℕ) (i : ℕ) → length vs ≤ length words → i < length vs → getD (sets words 0 vs) i 0 ≡ getD vs i 0

@@ -11,13 +11,15 @@ use lib.ListN.{length, set, length-append, length-set}
 use lib.Seq.{sets}
 use Rattle.model.proofs.Choice.{order}
 use Rattle.model.specs.Arena.{fill}
-use Rattle.model.specs.State.{State, fresh, Outcome}
-use Rattle.model.specs.Steps.{Step, act, Ran, oneByOne, stepsFrom}
+use Rattle.model.specs.State.{State, fresh}
+use Rattle.model.specs.Steps.{act, Ran, stepsFrom}
+use Rattle.model.proofs.Calls.{steps-length, slots-length}
 use Rattle.script.specs.declared.Parsed.{Parsed}
 use Rattle.script.specs.declared.Parsed.the-variants.{Bad, Script}
 use Rattle.script.specs.Lines.{parse, numbersAt}
 use Rattle.script.specs.Replay.{admissionsFrom, answerLines, allSwaps, fiveTotals, totalLines, printed, admissionsRun, stepsRun}
 use Rattle.script.specs.Replay.{replayed, replayText}
+use Rattle.script.specs.Sizes.{Short, none, more, Totals, Sized}
 use Rattle.script.specs.Printing.{decimal, line1, line2, page, written}
 use Rattle.script.proofs.Accepted.{Fits, script-fits, bad-low}
 use Rattle.script.proofs.Pages.{put-room, decimal-small, decimal-more}
@@ -48,38 +50,16 @@ line2-short : (n v : ℕ) → n < 100 → v < 4294967296 → length (line2 n v) 
 unfolding line2
 line2-short n v p q = rw length-append (omega (arith, decimal-short 1 n p, line1-short 9 v (omega arith)))
 
--- slots of such answers and values
-pub data Short : List ℕ → Type 0 where
-  none : Short []
-  more : {n v : ℕ} {slots : List ℕ} → n < 100 → v < 4294967296 → Short slots → Short (n ∷ v ∷ slots)
-
 answers-short : {slots : List ℕ} → Short slots → length (answerLines slots) ≤ 7 * length slots
 unfolding answerLines
 answers-short none = omega arith
 answers-short (more {n = n} {v = v} {slots = slots} p q r) = rw length-append (omega (arith, line2-short n v p q, answers-short r))
 
 -- two words for each step
-slots-length : (f : State → Step → Outcome) (s : State) (l : List Step) → length (oneByOne f s l .slots) ≡ 2 * length l
-slots-length f s [] = refl
-slots-length f s (t ∷ l) = omega (arith, slots-length f (f s t .next) l)
-
 admissions-length : (words : List ℕ) (i n : ℕ) → length (admissionsFrom words i n) ≡ n
 unfolding admissionsFrom
 admissions-length words i zero = refl
 admissions-length words i (suc n) = ap suc (admissions-length words (suc i) n)
-
-steps-length : (words : List ℕ) (i n : ℕ) → length (stepsFrom words i n) ≡ n
-unfolding stepsFrom
-steps-length words i zero = refl
-steps-length words i (suc n) = ap suc (steps-length words (suc i) n)
-
--- totals of the size that the archive's numbers have
-pub record Totals (s : State) : Type 0 where
-  pub begun : s .control .begun < 4294967296
-  pub committed : s .control .committed < 4294967296
-  pub aborted : s .control .aborted < 4294967296
-  pub swaps : allSwaps (s .table) < 34359738368
-  pub filled : fill (s .control .map) ≤ 1024
 
 totals-short : (s : State) → Totals s → length (totalLines s) ≤ 52
 unfolding fiveTotals
@@ -95,12 +75,6 @@ totals-short s t =
       line1-short 3 (fill (s .control .map)) (omega (arith, t .filled)),
     ))
 
--- what the code's types say of a run: answers and values, and the totals at its end
-pub record Sized (first then : Ran) : Type 0 where
-  pub admitted : Short (first .slots)
-  pub stepped : Short (then .slots)
-  pub totals : Totals (then .next)
-
 printed-short : (s : List ℕ) (m at k start : ℕ) (first then : Ran) → Fits s m at k start → length s ≤ 65536
     → length (first .slots) ≡ 2 * m → length (then .slots) ≡ 2 * k → Sized first then → length (printed m k first then) ≤ 229440
 unfolding printed
@@ -109,8 +83,8 @@ printed-short s m at k start first then fits h lm lk z =
     (omega (
       arith,
       fits .bytes,
-      line1-short 9 m (omega (arith, fits .few-admissions)),
-      line1-short 9 k (omega (arith, fits .few-steps)),
+      line1-short 9 m (omega (arith, fits .numbers .few-admissions)),
+      line1-short 9 k (omega (arith, fits .numbers .few-steps)),
       answers-short (z .admitted),
       answers-short (z .stepped),
       totals-short (then .next) (z .totals),

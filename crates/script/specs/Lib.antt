@@ -3,3 +3,4 @@ pub mod Lines
 pub mod Printing
 pub mod Texts
 pub mod Replay
+pub mod Sizes

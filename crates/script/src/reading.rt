@@ -77,7 +77,7 @@ fn number(s: &[u8], at: usize) -> Found
     }
 }
 
-// A number with the byte `mark` behind it.
+// A number with the byte `mark` behind it; not 0, which is what stands behind the end of the text.
 fn field(s: &[u8], at: usize, mark: u8) -> Found
     requires { ⌜ 0 < mark ⌝ }
     ensures { λ r. ⌜ r ≡ fieldAt (now (s .entry)) mark at ⌝ }
@@ -108,7 +108,7 @@ fn line(s: &[u8], spaces: u32, at: usize) -> Found
     field(s, place, LF)
 }
 
-// `count` lines, of which the first has the number `first`.
+// `count` lines, of which the first has the number `first`, at most 2^33, so that no number of a line wraps.
 fn lines(s: &[u8], count: u32, spaces: u32, first: usize, at: usize) -> Reached
     requires { ⌜ first ≤ 8589934592 ⌝ }
     ensures { λ r. ⌜ r ≡ linesAt (now (s .entry)) count spaces first at ⌝ }

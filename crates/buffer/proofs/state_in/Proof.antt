@@ -1,6 +1,5 @@
 -- `buffer::state_in` meets its contract: the words of arena and table, and the control record, are what the bytes mean. Assumes nothing.
 use borrow.Author.Needs.{needs}
-use Rattle.buffer.specs.Buffer.{stateIn}
 use Rattle.buffer.proofs.state_in.Statement.{statement}
 use Rattle.buffer.proofs.state_in.Tie as tie
 
@@ -20,12 +19,15 @@ same-length-2 : tie.Need-same-length-2
 same-length-2 c = search needs
 
 returns : tie.Need-returns
-unfolding stateIn
 returns c =
     let c2 = c .before .before .before in
     let c1 = c2 .before .before .before .before in
     let s = c1 .before .before .before .before .before in
-    rw (c .control-in .ensures, c1 .words-in .ensures, c2 .words-in2 .ensures, s .pre .1, s .pre .2)
+    record {
+      control = c .control-in .ensures;
+      arena = rw (s .pre .1) at (c1 .words-in .ensures);
+      table = rw (s .pre .2) at (c2 .words-in2 .ensures);
+    }
 
 pub state-in-spec : {M : Type 1} → statement M
 state-in-spec =

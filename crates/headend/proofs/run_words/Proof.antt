@@ -3,6 +3,7 @@
 use mathlib.Core.Path.{sym, ap, _∙_}
 use Prim.Native.Nat.{ℕ, _*_}
 use borrow.Author.Needs.{needs}
+use Rattle.buffer.proofs.RoundTrip.{state-decoded}
 use Rattle.headend.proofs.Exported.{run-gives}
 use Rattle.headend.proofs.run_words.Statement.{statement}
 use Rattle.headend.proofs.run_words.Tie as tie
@@ -79,7 +80,8 @@ returns c =
     let c3 = c4 .before .before .before .before .before .before .before in
     let c2 = c3 .before .before .before .before .before in
     let c1 = c2 .before .before .before .before in
-    run-gives _ _ _ _ _ _ _ (rw (c1 .state-in .ensures, c2 .words-in .ensures, c3 .words-in2 .ensures) at (c4 .run .ensures))
+    run-gives _ _ _ _ _ _ _
+    (rw (state-decoded (c1 .state-in .ensures), c2 .words-in .ensures, c3 .words-in2 .ensures) at (c4 .run .ensures))
     (c6 .finish .ensures) (c5 .slots-out .ensures)
 
 pub run-words-spec : {M : Type 1} → statement M

@@ -50,7 +50,7 @@ returns-2 c =
     let c1 = c2 .before .before .before .before .before in
     let c0 = c1 .before .before .before .before in
     let s = c0 .before .before in
-    call-gives _ _ _ _ _ freshCall _ (c0 .if1 .left) (c1 .state-in .ensures) (c2 .fresh .ensures) (c3 .finish .ensures)
+    call-gives _ _ _ _ _ freshCall (c0 .if1 .left) (c1 .state-in .ensures) (c2 .fresh .ensures) (c3 .finish .ensures)
 
 pub tangvrak-fresh-spec : {M : Type 1} → statement M
 tangvrak-fresh-spec =

@@ -54,7 +54,7 @@ returns-2 c =
     let s = c0 .before .before in
     let a = s .args in
     let t = step (a .who) (a .code) (a .a) (a .b) (a .v) in
-    call-gives _ _ _ _ _ (λ s. stepCall s t) _ (c0 .if1 .left) (c1 .state-in .ensures) (c2 .step .ensures) (c3 .finish .ensures)
+    call-gives _ _ _ _ _ (λ s. stepCall s t) (c0 .if1 .left) (c1 .state-in .ensures) (c2 .step .ensures) (c3 .finish .ensures)
 
 pub tangvrak-step-spec : {M : Type 1} → statement M
 tangvrak-step-spec =

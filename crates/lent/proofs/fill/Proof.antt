@@ -60,6 +60,7 @@ use Rattle.archive.proofs.Reply.Laws as Rep′
 use Rattle.byrow.specs.Does.{Looks, tableOf}
 use Rattle.byrow.proofs.Calls.{fill-is}
 use Rattle.lent.proofs.Locals.{gone}
+use Rattle.lent.proofs.Takes.{Take, taken-of}
 use Rattle.lent.proofs.Lifts.{look-lifted}
 use Rattle.byrow.proofs.fill_rows as fill-rows
 use Rattle.byrow.proofs.fill_rows.Symbol as fill-rows-def
@@ -77,18 +78,11 @@ stayed = (
 )
 
 module _ {M : Type 1} (𝓤 : URA M) (H : Heap 𝓤) (A : Atoms 𝓤) (mem : Memory → SProp 𝓤) (run : Routine → Fun 𝓤) where
-  -- the contracts that the proof cites
-  abbrev Take : Contract 𝓤
-  Take = tripleOf 𝓤 H A take-rows.signature (take-rows.spec 𝓤 H A mem run)
-
+  -- the contract that the proof cites, beside that of `take_rows`
   abbrev Core : Contract 𝓤
   Core = tripleOf 𝓤 H A fill-rows.signature (fill-rows.spec 𝓤 H A mem run)
 
-  -- of what each ensures, the clause alone
-  taken-of : (κs : Lft × Unit {0}) (t : RefT (List Row)) (e : Eight)
-      → ent 𝓤 (ensured 𝓤 H A take-rows.ended (take-rows.clauses 𝓤 H A mem run) κs (t, tt) tt e) (fact 𝓤 (e ≡ taken (t .now)))
-  taken-of κs t e = exE 𝓤 _ (λ ws. snd∗ 𝓤 (sem 𝓤 H A (lasts take-rows.ended κs (t, tt) ws)) (fact 𝓤 (e ≡ taken (t .now))))
-
+  -- of what it ensures, the clause alone
   looked-of : (κs : Lft × Unit {0}) (c : Control) (x : RefT (List ℕ)) (n : ℕ) (e : Eight) (r : Reply)
       → ent 𝓤 (ensured 𝓤 H A fill-rows.ended (fill-rows.clauses 𝓤 H A mem run) κs (c, (x, (n, (e, tt)))) tt r)
       (fact 𝓤 (Looks r (fillCall (state c (x .now) (tableOf n e)))))
