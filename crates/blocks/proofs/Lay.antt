@@ -15,16 +15,13 @@ use Rattle.model.specs.Choice.{_and_}
 use Rattle.model.specs.Arena.{bit, used, IsMap}
 use Rattle.model.specs.Rules.{covers}
 use Rattle.model.proofs.Choice.{order, same-or-not, and-parts, and-true}
-use Rattle.model.proofs.Bits.{bit-or, bit-and, bit-high, bits-ext}
+use Rattle.model.proofs.Bits.{no-bit, bit-or, bit-and, bits-ext}
 use Rattle.model.proofs.CellMap.{used-at, set-map}
 use Rattle.model.proofs.Covers.{covers-out}
 use Rattle.cells.specs.Words.{lowMask, highMask}
 use Rattle.blocks.specs.Lay.{layWord, freeWord, layFirst, lay, free}
 use Rattle.blocks.proofs.Covers.{covers-by}
 use Rattle.cells.proofs.Masks.{low-in, low-out, high-in, high-out, low-fits, high-fits}
-
-zero-bit : (j : ℕ) → bit 0 j ≡ 0
-zero-bit j = bit-high 0 0 j (omega arith) (omega arith)
 
 -- the masks as cells: of c's word, and of the next
 low-covers : (c n j : ℕ) → j < 64 → bit (lowMask (c % 64) n) j ≡ covers c n (64 * (c / 64) + j)
@@ -68,7 +65,7 @@ module _ (m : List ℕ) (w mask : ℕ) where
   unfolding freeWord
   word-free e j hj =
       ap (λ (x : ℕ). min x (bit mask j)) (used-at m w j hj) ∙ sym (bit-and (getD m w 0) mask j)
-      ∙ ap (λ (x : ℕ). bit x j) (eqb-true (bitAnd (getD m w 0) mask) 0 e) ∙ zero-bit j
+      ∙ ap (λ (x : ℕ). bit x j) (eqb-true (bitAnd (getD m w 0) mask) 0 e) ∙ no-bit j
 
   -- a word past the map: nothing is laid, nothing is met
   out-zero : length m ≤ w → bitAnd (getD m w 0) mask ≡ 0
@@ -88,7 +85,7 @@ module _ (m : List ℕ) (w mask : ℕ) where
       inside hw =
           bits-ext 64 (bitAnd (getD m w 0) mask) 0 (and-lt 64 (getD m w 0) mask (h .words w) hv) (pow-pos 64)
           (λ j hj.
-          bit-and (getD m w 0) mask j ∙ ap (λ (x : ℕ). min x (bit mask j)) (sym (used-at m w j hj)) ∙ f hw j hj ∙ sym (zero-bit j))
+          bit-and (getD m w 0) mask j ∙ ap (λ (x : ℕ). min x (bit mask j)) (sym (used-at m w j hj)) ∙ f hw j hj ∙ sym (no-bit j))
 
 -- where a cell lies: in the word of c, in the next, or in another
 data Lies (c : ℕ) : ℕ → Type 0 where

@@ -3,7 +3,7 @@
 use mathlib.Core.Path.{_≡_, refl, sym, ap, _∙_, subst, subst⁻¹}
 use mathlib.Core.Bool.{Bool, true, false}
 use mathlib.Core.List.{List}
-use Prim.Native.Nat.{ℕ, zero, suc, _+_, _<_, _≤_}
+use Prim.Native.Nat.{ℕ, _+_, _<_, _≤_}
 use native.Mathlib.Numerals.{add-one}
 use native.Mathlib.Omega.{arith}
 use lib.ListN.{length, getD, take, replicate}
@@ -11,13 +11,14 @@ use lib.Seq.{ext-getD, take-length}
 use Rattle.model.specs.declared.Lengths.{Lengths}
 use Rattle.model.specs.declared.Move.{Move}
 use Rattle.model.specs.Choice.{pick, every, total}
-use Rattle.model.specs.Arena.{kindTable, ofKind, cells, none, label, kindOf, cellsAt, used, IsMap}
+use Rattle.model.specs.Arena.{ofKind, none, label, kindOf, cellsAt, used, IsMap}
 use Rattle.model.specs.State.{Stage, idle, firstBarrier, copying, secondBarrier, thirdBarrier, stageOf, entry}
 use Rattle.model.specs.Rules.{early, late, covers, recordCovers, otherCovers, blocksOver, R3}
 use Rattle.model.proofs.Choice.{clash}
 use Rattle.model.proofs.Says.{Says, says-as, says-same, says-every, says-eq, refute}
 use Rattle.model.proofs.Readings.{CellsRight, says-R3}
 use Rattle.model.proofs.CellMap.{used-lt, fresh-map, fresh-free, map-ext}
+use Rattle.model.proofs.ByKind.{cells-short}
 use Rattle.model.proofs.Covers.{covers-le, covers-out}
 use Rattle.blocks.specs.declared.Block.{Block}
 use Rattle.blocks.specs.Lay.{lay, free, sameWord, block, otherBlock}
@@ -25,16 +26,8 @@ use Rattle.blocks.proofs.Covers.{record-covers, total-more, total-part}
 use Rattle.blocks.proofs.Lay.{lay-map, lay-used, free-tells, is-free}
 
 -- a record's cells fit a mask
-by-kind-small : (k : ℕ) → cells k < 64
-unfolding ofKind kindTable
-by-kind-small zero = omega arith
-by-kind-small (suc zero) = omega arith
-by-kind-small (suc (suc zero)) = omega arith
-by-kind-small (suc (suc (suc zero))) = omega arith
-by-kind-small (suc (suc (suc (suc k)))) = omega arith
-
 pub cells-small : (arena : List ℕ) (c : ℕ) → cellsAt arena c < 64
-cells-small arena c = by-kind-small (kindOf (label arena c))
+cells-small arena c = cells-short (kindOf (label arena c))
 
 -- how the code reads them
 pub cells-read : (arena : List ℕ) (c : ℕ) {n : Lengths} → n ≡ ofKind (kindOf (label arena c)) → n .cells ≡ cellsAt arena c

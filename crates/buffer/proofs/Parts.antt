@@ -5,10 +5,9 @@ use Prim.Native.Nat.{ℕ, _+_, _*_}
 use native.Mathlib.Omega.{arith}
 use lib.ListN.{length, length-append}
 use Rattle.model.specs.Arena.{laid}
-use Rattle.model.proofs.Records.{laid-none}
+use Rattle.model.proofs.Records.{laid-none, laid-append}
 use Rattle.wire.specs.Bytes.{bytes, allBytes}
 use Rattle.wire.proofs.Bytes.{length-all, length-bytes, all-one}
-use Rattle.wire.proofs.Laid.{laid-append}
 use Rattle.buffer.specs.Buffer.{Part, joined}
 
 -- the bytes of some parts

@@ -6,7 +6,7 @@ ghost use Rattle.model.specs.Rows.{accessOf, withPhase, withSwaps};
 ghost use Rattle.model.specs.State.{rise};
 ghost use Rattle.model.specs.ClientSteps.{done, atHeader, swap, finish, forwarded};
 ghost use Rattle.model.specs.Refusals.{restRefusals, openRefusals, dropRefusals, accessRefusals};
-ghost use Rattle.model.proofs.Refusals.{given};
+ghost use Rattle.model.specs.Refusals.{given};
 ghost use Rattle.clients.specs.Turns.{refusedTurn, attachTurn, detachTurn, openTurn, dropTurn, accessTurn, goTurn, restTurn};
 use model::Access;
 use model::Answer;

@@ -11,15 +11,6 @@ use Rattle.model.specs.declared.Answer.the-variants.{BarrierOpen}
 use Rattle.model.specs.State.{Stage, idle, firstBarrier, copying, stageOf}
 use Rattle.mover.specs.Kept.{kept, stays, advanceMove, closing, closeKept}
 
--- a number that is none of the four stages
-pub no-stage : (n : ℕ) → ¬ (n ≡ 1) → ¬ (n ≡ 2) → ¬ (n ≡ 3) → ¬ (n ≡ 4) → stageOf n ≡ idle
-no-stage zero a b c d = refl
-no-stage (suc zero) a b c d = absurd (a refl)
-no-stage (suc (suc zero)) a b c d = absurd (b refl)
-no-stage (suc (suc (suc zero))) a b c d = absurd (c refl)
-no-stage (suc (suc (suc (suc zero)))) a b c d = absurd (d refl)
-no-stage (suc (suc (suc (suc (suc n))))) a b c d = refl
-
 -- at the second and third barrier the move alone answers 22
 pub late-stays : (arena : List ℕ) (v : Move) (passed : Bool) (n : ℕ) → 3 ≤ n → n ≤ 4 → advanceMove arena v passed (stageOf n)
     ≡ stays v BarrierOpen
