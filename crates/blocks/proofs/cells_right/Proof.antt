@@ -1,4 +1,5 @@
 -- `blocks::cells_right` meets its contract. The invariant: the map built has at each cell the sum of the blocks of the entries passed.
+-- Assumes nothing.
 use Prim.Native.Nat.{_≤_, _-_}
 use mathlib.Core.Path.{sym}
 use native.Mathlib.Omega.{arith}
