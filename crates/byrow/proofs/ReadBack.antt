@@ -13,7 +13,7 @@ use Rattle.model.specs.Choice.{_and_}
 use Rattle.model.specs.State.{State, state, Outcome}
 use Rattle.model.specs.Steps.{refused, wrongSize, runCall, Ran}
 use Rattle.table.specs.Words.{tableWords, rowsRead}
-use Rattle.table.proofs.FourHolds.{FourHolds}
+use Rattle.table.proofs.FourHolds.{RowsOfFour}
 use Rattle.table.proofs.Rows.{rows-of-words}
 use Rattle.rows.specs.declared.Eight.{Eight}
 use Rattle.rows.specs.Eight.{rowsIn}
@@ -52,7 +52,7 @@ module _ {g : State → Outcome} (G : Tests g) (c : Control) (a : List ℕ) (e :
   look-refused = rw refused-so (record { answer = refl; control = refl })
 
 -- the calls on eight rows: their words are worked on, and read back
-module _ (c : Control) (a : List ℕ) (e : Eight) (n : ℕ) (eight : n ≡ 8) (four : FourHolds (rowsIn e)) where
+module _ (c : Control) (a : List ℕ) (e : Eight) (n : ℕ) (eight : n ≡ 8) (four : RowsOfFour (rowsIn e)) where
   meant-rows : meant c a (tableWords (rowsIn e)) ≡ state c a (tableOf n e)
   meant-rows = ap (state c a) (rows-of-words (rowsIn e) refl four ∙ sym (these-rows n e eight))
 

@@ -13,8 +13,9 @@ use Rattle.model.specs.declared.Phase.the-variants.{Resting}
 use Rattle.model.specs.declared.Answer.{Answer}
 use Rattle.model.proofs.Choice.{by-test}
 use Rattle.model.proofs.Row as T
+use Rattle.model.specs.Rows.{FourHolds}
 use Rattle.table.specs.Words.{tableWords, listFrom, rowRead, rowsRead, putRow}
-use Rattle.table.proofs.FourHolds.{Four, FourHolds, four-of-all}
+use Rattle.table.proofs.FourHolds.{RowsOfFour, four-of-all}
 use Rattle.table.proofs.Rows.{rows-read, put-row}
 use Rattle.rows.specs.declared.Eight.{Eight}
 use Rattle.rows.specs.Eight.{rowsIn}
@@ -34,7 +35,7 @@ pub row-stored : (table : List Row) (i : ℕ) (r : Row) {t u : List ℕ} → u �
 row-stored table i r e f = rw (e, f) (put-row table i r)
 
 -- what a call leaves in the words of eight rows is read as the rows that it leaves
-pub read-after : (l : List Row) → length l ≡ 8 → FourHolds l → (x : Answer) (next : List Row) → length next ≡ 8 → FourHolds next
+pub read-after : (l : List Row) → length l ≡ 8 → RowsOfFour l → (x : Answer) (next : List Row) → length next ≡ 8 → RowsOfFour next
     → (isRefused x ≡ true → next ≡ l) → {t : List ℕ} → t ≡ wordsAfter (tableWords l) x next → rowsRead t ≡ next
 unfolding wordsAfter
 read-after l n h x next m k same e =
@@ -48,10 +49,10 @@ unfolding listFrom
 all-read t p0 p1 p2 p3 p4 p5 p6 p7 = rw (p0, p1, p2, p3, p4, p5, p6, p7) refl
 
 -- the type of a row says that it has four holds
-four-row : (r : Row) (vs : List Val) → Is T.the-row r vs → Four r
+four-row : (r : Row) (vs : List Val) → Is T.the-row r vs → FourHolds r
 four-row r vs is = length-unmapped ℕ (r .holds) 4 (is .1 .1 .1 .1 .0 .1 .0 .1)
 
-pub four-eight : (e : Eight) (vs : List Val) → Is E.the-row e vs → FourHolds (rowsIn e)
+pub four-eight : (e : Eight) (vs : List Val) → Is E.the-row e vs → RowsOfFour (rowsIn e)
 four-eight e vs is =
     let rows = is .1 .1 in
     four-of-all (

@@ -4,7 +4,7 @@ ghost use mathlib.Core.Path.{_≡_};
 ghost use Rattle.model.specs.State.{state};
 ghost use Rattle.model.specs.Steps.{step, freshCall, stepCall, runCall, fillCall, auditCall};
 ghost use Rattle.table.specs.Words.{tableWords, rowRead, rowsRead, putRow};
-ghost use Rattle.table.proofs.FourHolds.{FourHolds};
+ghost use Rattle.table.proofs.FourHolds.{RowsOfFour};
 ghost use Rattle.rows.specs.Eight.{rowsIn};
 ghost use Rattle.byrow.specs.Does.{Does, Runs, Looks, tableOf, turnedDown};
 use archive::Reply;
@@ -37,7 +37,7 @@ fn get(t: [u32; 96], i: u32) -> Row
 
 // The words of the rows, each of which has four holds.
 fn words_of(rows: Eight) -> [u32; 96]
-    ensures { λ r. ⌜ (r ≡ tableWords (rowsIn rows)) × FourHolds (rowsIn rows) ⌝ }
+    ensures { λ r. ⌜ (r ≡ tableWords (rowsIn rows)) × RowsOfFour (rowsIn rows) ⌝ }
 {
     let none = [0; 96];
     let t0 = put(none, 0, rows.r0);

@@ -6,7 +6,7 @@ use borrow.Author.Needs.{needs}
 use denote.Ref.{now}
 use Rattle.model.specs.State.{idle, stageOf}
 use Rattle.model.proofs.StageNumbers.{stage-none}
-use Rattle.mover.proofs.Stages.{late-stays}
+use Rattle.mover.proofs.Stages.{closes-stays}
 use Rattle.mover.proofs.advance.Statement.{statement}
 use Rattle.mover.proofs.advance.Tie as tie
 
@@ -32,7 +32,7 @@ returns-3 : tie.Need-returns-3
 returns-3 c =
     let b4 = c .before .before .before .before in
     let a = b4 .before .args in c .stay .ensures ∙ sym
-    (late-stays (now (a .arena)) (a .mv) (a .passed) (a .mv .stage) (omega arith) (omega arith))
+    (closes-stays (now (a .arena)) (a .mv) (a .passed) (a .mv .stage) (omega arith) (omega arith))
 
 returns-4 : tie.Need-returns-4
 returns-4 c =
