@@ -1,4 +1,4 @@
-// The free map, "one bit per cell, set when used": cell c is bit c % 64 of word c / 64. Test, take, free, count, search.
+// The free map, "one bit per cell, set when used": cell c is bit c % 64 of word c / 64. Take, free, count, search.
 // Knows nothing of records: what lies outside the 1,024 cells is free and stays so.
 ghost use mathlib.Core.Path.{_≡_};
 ghost use Prim.Native.Nat.{_<_, _≤_};
