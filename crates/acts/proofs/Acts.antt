@@ -22,12 +22,12 @@ use Rattle.model.proofs.Choice.{order}
 use Rattle.clients.specs.Turns.{clientTurn}
 use Rattle.clients.proofs.Acts.{act-client}
 use Rattle.mover.specs.declared.Kept.{Kept}
-use Rattle.mover.specs.Kept.{onMove, closing, closeKept, advanceMove, advanceKept, marked, placed}
-use Rattle.mover.proofs.Acts.{advance-acts}
+use Rattle.mover.specs.Kept.{onMove, closing, closeKept, advanceMove}
+use Rattle.mover.proofs.Acts.{advanceKept, marked, placed, advance-acts}
 use Rattle.keeper.specs.Kept.{retireStep, beginStep}
 use Rattle.keeper.proofs.Acts.{admit-acts, retire-acts, begin-acts}
 use Rattle.table.specs.Words.{tableWords, rowsRead}
-use Rattle.table.proofs.FourHolds.{FourHolds, four-after-set, four-after-clear}
+use Rattle.table.proofs.FourHolds.{RowsOfFour, four-after-set, four-after-clear}
 use Rattle.table.proofs.Rows.{row-read, rows-read, clear-marks}
 use Rattle.acts.specs.Acts.{Left, clientLeft, Lent, lent, Turn, turn, clearIf, keptTurn, byMove, turnOn}
 use Rattle.acts.proofs.Keeps.{client-stored, client-four}
@@ -36,28 +36,28 @@ use Rattle.acts.proofs.Keeps.{client-stored, client-four}
 abbrev pub lentOf : State → Lent
 lentOf s = lent (s .control) (s .arena) (tableWords (s .table))
 
-abbrev pub told : Outcome → Turn
-told o = turn (o .answer) (lentOf (o .next))
+abbrev pub lentOutcome : Outcome → Turn
+lentOutcome o = turn (o .answer) (lentOf (o .next))
 
 -- "eight rows", each with "four holds"
 pub record Rows (s : State) : Type 0 where
   pub eight : length (s .table) ≡ 8
-  pub four : FourHolds (s .table)
+  pub four : RowsOfFour (s .table)
 
 pub record Acts (s : State) (t : Step) : Type 0 where
-  pub turn : turnOn (lentOf s) t ≡ told (act s t)
+  pub turn : turnOn (lentOf s) t ≡ lentOutcome (act s t)
   pub rows : Rows (act s t .next)
 
 -- A refused step
 by-refused : (s : State) (t : Step) (n : ℕ) → Rows s → act s t ≡ refused s n → turnOn (lentOf s) t ≡ turn (Refused n) (lentOf s) → Acts s t
-by-refused s t n R e f = record { turn = f ∙ ap told (sym e); rows = rw e R }
+by-refused s t n R e f = record { turn = f ∙ ap lentOutcome (sym e); rows = rw e R }
 
 -- The keeper's steps
 clear-if : (b : Bool) (table : List Row) → length table ≡ 8 → clearIf b (tableWords table) ≡ tableWords (marked b table)
 clear-if true table e = clear-marks table e
 clear-if false table e = refl
 
-marked-rows : (b : Bool) (s : State) → Rows s → (length (marked b (s .table)) ≡ 8) × FourHolds (marked b (s .table))
+marked-rows : (b : Bool) (s : State) → Rows s → (length (marked b (s .table)) ≡ 8) × RowsOfFour (marked b (s .table))
 marked-rows true s R = (length-map (s .table) cleared ∙ R .eight, four-after-clear (R .four))
 marked-rows false s R = (R .eight, R .four)
 
@@ -68,7 +68,7 @@ by-placed s t o R e f =
           f
           ∙ ap (λ (w : List ℕ). turn (o .answer) (lent (o .control) (changed (s .arena) (o .change)) w))
           (clear-if (o .clear) (s .table) (R .eight))
-          ∙ ap told (sym e);
+          ∙ ap lentOutcome (sym e);
       rows = let m = marked-rows (o .clear) s R in rw e (record { eight = m .0; four = m .1 });
     }
 
@@ -98,7 +98,10 @@ module _ (s : State) (a b v : ℕ) (R : Rows s) where
   unfolding turnOn byMove
   admits =
       let t : Step = step 0 1 a b v in
-      record { turn = ap told (sym (admit-acts s t refl)); rows = rw (admit-acts s t refl) (record { eight = R .eight; four = R .four }) }
+      record {
+        turn = ap lentOutcome (sym (admit-acts s t refl));
+        rows = rw (admit-acts s t refl) (record { eight = R .eight; four = R .four });
+      }
 
   retires : Acts s (step 0 2 a b v)
   unfolding turnOn byMove
@@ -137,7 +140,7 @@ client-acts s i code a b v R h =
           rw (lt-ltb i 8 h, row-read (s .table) (R .four) i (omega (arith, R .eight)))
           (ap (λ (l : Left). turn (l .answer) (lent (s .control) (l .arena) (l .table)))
           (client-stored (s .arena) (s .table) i n (entry (s .control .dir) a) a b v)
-          ∙ ap told (sym e));
+          ∙ ap lentOutcome (sym e));
       rows =
           rw e
           (record {

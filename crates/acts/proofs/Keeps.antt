@@ -15,7 +15,7 @@ use Rattle.model.specs.declared.Change.the-variants.{Nothing}
 use Rattle.model.specs.declared.Row.{Row}
 use Rattle.model.specs.declared.Stepped.{Stepped}
 use Rattle.model.specs.Arena.{none, header, flagged, flagOf}
-use Rattle.model.specs.Rows.{withPhase, withSwaps, freshRow, hold, holdOf}
+use Rattle.model.specs.Rows.{FourHolds, withPhase, withSwaps, freshRow, hold, holdOf}
 use Rattle.model.specs.ClientSteps.{attach, detach, openHold, dropHold, atHeader, go, swap, rest, forwarded, changed}
 use Rattle.model.specs.Refusals.{Refusal, attachRefusals, restRefusals, openRefusals, dropRefusals, goRefusals}
 use Rattle.model.specs.Steps.{Name, ADMIT, RETIRE, BEGIN, ADVANCE, ATTACH, DETACH, OPEN, DROP, READ, WRITE, GO, REST, UNKNOWN, NOBODY}
@@ -23,7 +23,6 @@ use Rattle.model.proofs.Choice.{by-test}
 use Rattle.model.proofs.Refusals.{unless-refused}
 use Rattle.clients.specs.Turns.{turn, refusedTurn, accessTurn, goTurn, clientTurn}
 use Rattle.table.specs.Words.{tableWords}
-use Rattle.table.proofs.FourHolds.{Four}
 use Rattle.table.proofs.Rows.{put-row, put-phase, put-swaps-phase}
 use Rattle.acts.specs.Acts.{Left, left, stored}
 
@@ -109,9 +108,9 @@ module _ (a : List ℕ) (table : List Row) (i : ℕ) where
   client-stored NOBODY e x y v = none-stored
 
 -- a row keeps its four holds
-module _ (a : List ℕ) (r : Row) (f : Four r) where
+module _ (a : List ℕ) (r : Row) (f : FourHolds r) where
   abbrev HasFour : Stepped → Type 0
-  HasFour o = Four (o .row)
+  HasFour o = FourHolds (o .row)
 
   kept-four : (l : List Refusal) (o : Stepped) → HasFour o → HasFour (turn l r o)
   kept-four l o h = turn-keeps HasFour l r o (λ n. f) h
@@ -127,7 +126,7 @@ module _ (a : List ℕ) (r : Row) (f : Four r) where
   go-four (Ready c (Write h w v)) = f
   go-four (Waiting c x) = by-test HasFour (eqb (header a c) (flagged c)) (λ _. f) (λ _. f)
 
-  pub client-four : (n : Name) (e x y v : ℕ) → Four (clientTurn n a r e x y v .row)
+  pub client-four : (n : Name) (e x y v : ℕ) → FourHolds (clientTurn n a r e x y v .row)
   client-four ATTACH e x y v = kept-four (attachRefusals r) (attach r) refl
   client-four DETACH e x y v = kept-four (restRefusals r) (detach r) refl
   client-four OPEN e x y v = kept-four (openRefusals r e x y) (openHold r y e) (length-set (r .holds) y e ∙ f)

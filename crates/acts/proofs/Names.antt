@@ -17,8 +17,8 @@ use Rattle.model.proofs.Choice.{sides, same-or-not}
 use Rattle.clients.specs.Turns.{accessTurn}
 use Rattle.clients.proofs.Acts.{code-below, code-above}
 use Rattle.table.specs.Words.{rowRead, putPhase}
-use Rattle.acts.specs.Acts.{Left, left, clientLeft, LeftDoes, Lent, lent, Turn, turn, keeperTurn, passedAll, byMove, moveTurn}
-use Rattle.acts.specs.Acts.{partyTurn, turnOn}
+use Rattle.acts.specs.Acts.{Left, left, clientLeft, LeftDoes, Lent, turn, keeperTurn, passedAll, byMove, moveTurn}
+use Rattle.acts.specs.Acts.{clientTurnAt, partyTurn, turnOn}
 
 pub left-via : {a t : List ℕ} {r : Answer} {o p : Left} → o ≡ p → LeftDoes a t r p → LeftDoes a t r o
 left-via e d = rw e d
@@ -72,16 +72,11 @@ pub turn-by-keeper : (l : Lent) (t : Step) → t .who ≡ 0 → byMove (t .code)
 unfolding turnOn
 turn-by-keeper l t e f = rw (e, f)
 
-abbrev pub clientTurnOn : Lent → Step → Turn
-clientTurnOn l t =
-    let o = clientLeft (getD clientCodes (t .code) UNKNOWN) (l .arena) (l .table) (l .control .dir) (t .who - 1) (t .a) (t .b) (t .v) in
-    turn (o .answer) (lent (l .control) (o .arena) (o .table))
-
-client-turn : (who : ℕ) (l : Lent) (t : Step) → t .who ≡ who → (who ≡ 0 → ⊥) → who < 9 → partyTurn who l t ≡ clientTurnOn l t
+client-turn : (who : ℕ) (l : Lent) (t : Step) → t .who ≡ who → (who ≡ 0 → ⊥) → who < 9 → partyTurn who l t ≡ clientTurnAt l (t .who - 1) t
 client-turn zero l t e n h = absurd (n refl)
 client-turn (suc i) l t e n h = let f : t .who - 1 ≡ i = omega arith in rw (lt-ltb i 8 (omega arith), f)
 
-pub turn-by-client : (l : Lent) (t : Step) → (t .who ≡ 0 → ⊥) → t .who < 9 → turnOn l t ≡ clientTurnOn l t
+pub turn-by-client : (l : Lent) (t : Step) → (t .who ≡ 0 → ⊥) → t .who < 9 → turnOn l t ≡ clientTurnAt l (t .who - 1) t
 unfolding turnOn
 turn-by-client l t n h = client-turn (t .who) l t refl n h
 

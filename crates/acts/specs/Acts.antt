@@ -110,14 +110,17 @@ byMove code v passed = eqb code 4 and not (closing passed (stageOf (v .stage)))
 abbrev pub moveTurn : Lent → Turn
 moveTurn l = keptTurn l (onMove (l .control) (advanceMove (l .arena) (l .control .mv) (passedAll l) (stageOf (l .control .mv .stage))))
 
+-- a client's step on row i
+abbrev pub clientTurnAt : Lent → ℕ → Step → Turn
+clientTurnAt l i t =
+    let o = clientLeft (getD clientCodes (t .code) UNKNOWN) (l .arena) (l .table) (l .control .dir) i (t .a) (t .b) (t .v) in
+    turn (o .answer) (lent (l .control) (o .arena) (o .table))
+
+-- "Who 0 is the keeper, 1 to 8 the clients."
 abbrev pub partyTurn : ℕ → Lent → Step → Turn
 partyTurn zero l t =
     pick (byMove (t .code) (l .control .mv) (passedAll l)) (moveTurn l) (keeperTurn (getD keeperCodes (t .code) UNKNOWN) l (t .a) (t .b))
-partyTurn (suc i) l t =
-    pick (ltb i 8)
-    (let o = clientLeft (getD clientCodes (t .code) UNKNOWN) (l .arena) (l .table) (l .control .dir) i (t .a) (t .b) (t .v) in
-    turn (o .answer) (lent (l .control) (o .arena) (o .table)))
-    (turn (Refused 3) l)
+partyTurn (suc i) l t = pick (ltb i 8) (clientTurnAt l i t) (turn (Refused 3) l)
 
 unfoldable pub turnOn : Lent → Step → Turn
 turnOn l t = partyTurn (t .who) l t

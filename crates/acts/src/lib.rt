@@ -98,7 +98,7 @@ pub fn client(
             let o = clients::rest(arena, row);
             keep_row(table, i, o)
         }
-        _ => Answer::Refused(4),
+        0..=9 | 18..=4294967295 => Answer::Refused(4),
     }
 }
 
@@ -180,7 +180,7 @@ pub fn keep(
             let o = mover::close(control, arena);
             put_kept(arena, table, o)
         }
-        _ => Turned {
+        0 | 5..=4294967295 => Turned {
             control,
             answer: Answer::Refused(4),
         },

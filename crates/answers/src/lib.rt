@@ -4,7 +4,7 @@ ghost use mathlib.Core.Path.{_≡_};
 ghost use Rattle.answers.specs.Answers.{toldOf, toldAs};
 use model::Answer;
 
-// 01's number and value of an answer.
+// An answer as it is told.
 pub struct Told {
     pub number: u32,
     pub value: u32,

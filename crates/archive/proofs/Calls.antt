@@ -3,25 +3,25 @@
 use mathlib.Core.Path.{_≡_, refl, sym, ap, _∙_}
 use mathlib.Core.Bool.{true, false}
 use mathlib.Core.List.{List, [], _∷_}
-use Prim.Native.Nat.{ℕ, zero, suc, _*_, _/_, _%_, _≤_, _<_}
+use Prim.Native.Nat.{ℕ, _/_, _≤_, _<_}
 use native.Mathlib.Omega.{arith}
-use lib.Dec.{eqb, leb, ltb}
+use lib.Dec.{eqb, ltb}
 use lib.ListN.{length, replicate}
-use borrow.Author.Tests.{eqb-true, leb-true, ltb-true, lt-ltb}
+use borrow.Author.Tests.{eqb-true, ltb-true, lt-ltb}
 use Rattle.model.specs.declared.Answer.{Answer}
 use Rattle.model.specs.declared.Answer.the-variants.{Refused, Done}
 use Rattle.model.specs.declared.Control.{Control}
 use Rattle.model.specs.declared.Row.{Row}
-use Rattle.model.specs.Choice.{_and_}
 use Rattle.model.specs.Arena.{fill}
-use Rattle.model.specs.State.{State, Outcome, outcome, number, freshControl}
+use Rattle.model.specs.State.{State, Outcome, outcome, number, Answered, freshControl}
 use Rattle.model.specs.Steps.{Step, step, refused, act, wrongSize, unsound, freshCall, auditCall, fillCall, stepCall, Ran, ran, oneByOne}
-use Rattle.model.specs.Steps.{stepsFrom, stepsOf, runSizes, runCall}
+use Rattle.model.specs.Steps.{callRefusals, stepsOf, runSizes, runCall}
+use Rattle.model.specs.Refusals.{given}
 use Rattle.model.specs.Rules.{firstBroken}
 use Rattle.model.proofs.Choice.{by-test, and-parts}
 use Rattle.model.proofs.Records.{laid-all}
 use Rattle.model.proofs.Refusals.{refused-by-given, accepted-by-given}
-use Rattle.model.specs.State.{Answered}
+use Rattle.model.proofs.Calls.{RunSizes, says-run-sizes, steps-length, slots-length, ran-done}
 use Rattle.model.proofs.Answered.{answered}
 use Rattle.table.specs.Words.{tableWords, rowsOf, eachRow, freshen}
 use Rattle.table.proofs.Rows.{fresh-rows}
@@ -31,7 +31,7 @@ use Rattle.acts.proofs.Acts.{lentOf}
 use Rattle.turns.specs.Runs.{going, turnsFrom, RunDoes}
 use Rattle.turns.proofs.Runs.{Went, run-steps, run-one}
 use Rattle.archive.specs.declared.Reply.{Reply}
-use Rattle.archive.specs.Does.{meant, wordsAfter, CallDoes, LookDoes, callRefusals, refusalOf, rightSizes}
+use Rattle.archive.specs.Does.{meant, wordsAfter, CallDoes, LookDoes, rightSizes}
 use Rattle.archive.specs.Does as does
 use Rattle.archive.proofs.Tests.{Passes, passes, size-test}
 
@@ -39,25 +39,24 @@ abbrev pub reply : Control → Answer → Reply
 reply c x = record { control = c; answer = x }
 
 -- A refused call
-module _ (s : State) (n : ℕ) (e : n ≡ refusalOf s) where
+module _ (s : State) (n : ℕ) (e : n ≡ given (callRefusals s)) where
   pub step-refused : (t : Step) → 0 < n → stepCall s t ≡ refused s n
-  unfolding stepCall refusalOf
+  unfolding stepCall
   step-refused t h = rw e (refused-by-given (callRefusals s) (refused s) (act s t) (rw e at h))
 
   pub fill-refused : 0 < n → fillCall s ≡ refused s n
-  unfolding fillCall refusalOf
+  unfolding fillCall
   fill-refused h =
       rw e (refused-by-given (callRefusals s) (refused s) (outcome (Done (fill (s .control .map))) s) (rw e at h))
 
   pub run-refused : (ws slots : List ℕ) → runSizes ws slots ≡ true → 0 < n → runCall s ws slots ≡ ran (Refused n) slots s
-  unfolding runCall refusalOf
+  unfolding runCall
   run-refused ws slots r h =
       rw (r, e)
       (refused-by-given (callRefusals s) (λ k. ran (Refused k) slots s) (oneByOne act s (stepsOf ws)) (rw e at h))
 
 -- what a refused call leaves: n is 1 or 2
-refusal-small : (s : State) → refusalOf s ≤ 2
-unfolding refusalOf
+refusal-small : (s : State) → given (callRefusals s) ≤ 2
 refusal-small s =
     by-test (λ (n : ℕ). n ≤ 2) (wrongSize s) (λ _. omega arith)
     (λ _. by-test (λ (n : ℕ). n ≤ 2) (unsound s) (λ _. omega arith) (λ _. omega arith))
@@ -70,7 +69,7 @@ module _ (c : Control) (a t : List ℕ) where
   pub refused-does : (n : ℕ) → n ≤ 2 → CallDoes t (reply c (Refused n)) a t (refused (meant c a t) n)
   refused-does n h = record { answer = refl; control = refl; arena = refl; table = words-refused t n (rowsOf t) (omega arith) }
 
-  pub step-stays : (n : ℕ) (T : Step) → n ≡ refusalOf (meant c a t) → 0 < n
+  pub step-stays : (n : ℕ) (T : Step) → n ≡ given (callRefusals (meant c a t)) → 0 < n
       → CallDoes t (reply c (Refused n)) a t (stepCall (meant c a t) T)
   step-stays n T e h = rw (step-refused (meant c a t) n e T h) (refused-does n (rw e (refusal-small (meant c a t))))
 
@@ -79,7 +78,7 @@ module _ (c : Control) (a t : List ℕ) where
   run-stays n ws slots h e =
       rw e (record { answer = refl; control = refl; arena = refl; table = words-refused t n (rowsOf t) (omega arith); slots = refl })
 
-  pub run-refused-by : (n : ℕ) (ws slots : List ℕ) → n ≡ refusalOf (meant c a t) → runSizes ws slots ≡ true → 0 < n
+  pub run-refused-by : (n : ℕ) (ws slots : List ℕ) → n ≡ given (callRefusals (meant c a t)) → runSizes ws slots ≡ true → 0 < n
       → does.RunDoes t (reply c (Refused n)) a t slots (runCall (meant c a t) ws slots)
   run-refused-by n ws slots e r h = run-stays n ws slots (rw e (refusal-small (meant c a t))) (run-refused (meant c a t) n e ws slots r h)
 
@@ -109,11 +108,12 @@ module _ (c : Control) (a t : List ℕ) where
   unfolding auditCall
   audit-goes n e f = rw (size-test c a t, e) (record { answer = ap Done f; control = refl })
 
-  pub fill-stays : (n : ℕ) → n ≡ refusalOf (meant c a t) → 0 < n → LookDoes (reply c (Refused n)) (fillCall (meant c a t))
+  pub fill-stays : (n : ℕ) → n ≡ given (callRefusals (meant c a t)) → 0 < n → LookDoes (reply c (Refused n)) (fillCall (meant c a t))
   fill-stays n e h = rw (fill-refused (meant c a t) n e h) (record { answer = refl; control = refl })
 
-  pub fill-goes : (n : ℕ) → refusalOf (meant c a t) ≡ 0 → n ≡ fill (c .map) → LookDoes (reply c (Done n)) (fillCall (meant c a t))
-  unfolding fillCall refusalOf
+  pub fill-goes : (n : ℕ) → given (callRefusals (meant c a t)) ≡ 0 → n ≡ fill (c .map)
+      → LookDoes (reply c (Done n)) (fillCall (meant c a t))
+  unfolding fillCall
   fill-goes n e f =
       let s : State = meant c a t in
       rw (accepted-by-given (callRefusals s) (refused s) (outcome (Done (fill (c .map))) s) refl e)
@@ -129,10 +129,10 @@ words-kept t s o A e =
     (λ _. refl)
 
 pub step-goes : (c : Control) (a t slots : List ℕ) (who code x y v : ℕ) {r : Turned} {b u w : List ℕ}
-    → refusalOf (meant c a t) ≡ 0 → length slots ≡ 2
+    → given (callRefusals (meant c a t)) ≡ 0 → length slots ≡ 2
     → RunDoes b u w r (turnsFrom (who ∷ code ∷ x ∷ y ∷ v ∷ []) 0 4096 (going (lent c a t) slots (Done 0)))
     → CallDoes t (reply (r .control) (r .answer)) b u (stepCall (meant c a t) (step who code x y v))
-unfolding stepCall refusalOf
+unfolding stepCall
 step-goes c a t slots who code x y v {r} {b} {u} {w} e l d =
     let s : State = meant c a t in
     let T : Step = step who code x y v in
@@ -151,50 +151,36 @@ step-goes c a t slots who code x y v {r} {b} {u} {w} e l d =
     })
 
 -- A run: it answers 30 with 0, and has a slot of two words for each step
-ran-done : (l : List Step) (s : State) → oneByOne act s l .answer ≡ Done 0
-ran-done [] s = refl
-ran-done (t ∷ l) s = ran-done l (act s t .next)
-
-steps-count : (ws : List ℕ) (n i : ℕ) → length (stepsFrom ws i n) ≡ n
-unfolding stepsFrom
-steps-count ws zero i = refl
-steps-count ws (suc n) i = ap suc (steps-count ws n (suc i))
-
-slots-count : (l : List Step) (s : State) → length (oneByOne act s l .slots) ≡ 2 * length l
-slots-count [] s = refl
-slots-count (t ∷ l) s = omega (arith, slots-count l (act s t .next))
-
 words-done : (t : List ℕ) (x : Answer) (rows : List Row) → x ≡ Done 0 → tableWords rows ≡ wordsAfter t x rows
 unfolding wordsAfter
 words-done t x rows e = rw e
 
-pub run-goes : (c : Control) (a t ws slots : List ℕ) {r : Turned} {b u w : List ℕ} → runSizes ws slots ≡ true → refusalOf (meant c a t) ≡ 0
+pub run-goes : (c : Control) (a t ws slots : List ℕ) {r : Turned} {b u w : List ℕ} → runSizes ws slots ≡ true
+    → given (callRefusals (meant c a t)) ≡ 0
     → RunDoes b u w r (turnsFrom ws 0 4096 (going (lent c a t) slots (Done 0)))
     → does.RunDoes t (reply (r .control) (Done 0)) b u w (runCall (meant c a t) ws slots)
-unfolding runCall runSizes refusalOf
+unfolding runCall
 run-goes c a t ws slots {r} {b} {u} {w} q e d =
     let s : State = meant c a t in
     let R : Ran = oneByOne act s (stepsOf ws) in
     let P : Passes c a t = passes c a t e in
-    let p = and-parts (leb (length ws) 20480) (eqb (length ws % 5) 0 and eqb (length slots) (2 * (length ws / 5))) q in
-    let f = and-parts (eqb (length ws % 5) 0) (eqb (length slots) (2 * (length ws / 5))) (p .1) in
-    let few : length ws ≤ 20480 = leb-true (length ws) 20480 (p .0) in
-    let fives : length ws % 5 ≡ 0 = eqb-true (length ws % 5) 0 (f .0) in
-    let twos : length slots ≡ 2 * (length ws / 5) = eqb-true (length slots) (2 * (length ws / 5)) (f .1) in
+    let z : RunSizes ws slots = says-run-sizes ws slots .holds q in
+    let n : length ws / 5 ≡ z .steps = omega (arith, z .words) in
     let o : runCall s ws slots ≡ R =
     rw q (accepted-by-given (callRefusals s) (λ n. ran (Refused n) slots s) R refl e) in
     let g : RunDoes b u w r (turnsFrom ws 0 4096 (going (lentOf s) slots (Done 0))) = rw (P .words) d in
     let W : Went slots 0 (turnsFrom ws 0 4096 (going (lentOf s) slots (Done 0))) R =
-    run-steps (length ws / 5) 4096 0 ws slots (Done 0) s (P .rows) (omega arith) refl (omega arith) (omega arith) in
+    run-steps (length ws / 5) 4096 0 ws slots (Done 0) s (P .rows) (omega (arith, z .most)) refl (omega (arith, z .words))
+    (omega (arith, z .answers)) in
     rw o
     (record {
-      answer = sym (ran-done (stepsOf ws) s);
+      answer = sym (ran-done act s (stepsOf ws));
       control = ap (λ (z : Turned). z .control) (g .result) ∙ ap (λ (z : Lent). z .control) (W .lent);
       arena = g .arena ∙ ap (λ (z : Lent). z .arena) (W .lent);
       table =
-          g .table ∙ ap (λ (z : Lent). z .table) (W .lent) ∙ words-done t (R .answer) (R .next .table) (ran-done (stepsOf ws) s);
+          g .table ∙ ap (λ (z : Lent). z .table) (W .lent) ∙ words-done t (R .answer) (R .next .table) (ran-done act s (stepsOf ws));
       slots =
           g .slots ∙ W .slots
           ∙ laid-all slots (R .slots)
-          (twos ∙ sym (slots-count (stepsOf ws) s ∙ ap (λ (n : ℕ). 2 * n) (steps-count ws (length ws / 5) 0)));
+          (omega (arith, z .answers, slots-length act s (stepsOf ws), steps-length ws 0 (length ws / 5)));
     })

@@ -2,25 +2,25 @@
 -- its eight rows. Assumes nothing.
 use mathlib.Core.Path.{_≡_, refl, sym, _∙_}
 use mathlib.Core.Logic.{_≢_, ⊎-elim}
-use mathlib.Core.Bool.{Bool, true, false, not}
-use mathlib.Core.List.{List, [], _∷_}
+use mathlib.Core.Bool.{true, false, not}
+use mathlib.Core.List.{List}
 use Prim.Native.Nat.{ℕ}
-use native.Mathlib.Omega.{arith}
 use lib.Dec.{eqb}
 use lib.ListN.{length}
 use borrow.Author.Tests.{eq-eqb, ne-eqb, eqb-true, not-false}
 use Rattle.model.specs.declared.Control.{Control}
 use Rattle.model.specs.State.{State}
-use Rattle.model.specs.Refusals.{_if_, refuse}
+use Rattle.model.specs.Refusals.{given}
 use Rattle.model.specs.Rules.{firstBroken}
-use Rattle.model.specs.Steps.{wrongSize, unsound}
+use Rattle.model.specs.Steps.{wrongSize, unsound, callRefusals}
 use Rattle.model.proofs.Choice.{and-parts, same-or-not}
+use Rattle.model.proofs.Refusals.{none-given}
 use Rattle.model.proofs.Readings.{says-R6, sound-of}
 use Rattle.table.specs.Words.{tableWords, rowsOf}
 use Rattle.table.proofs.FourHolds.{four-rows-of}
 use Rattle.table.proofs.Rows.{length-rows, no-rows, sound-words}
 use Rattle.acts.proofs.Acts.{Rows}
-use Rattle.archive.specs.Does.{meant, refusalOf, rightSizes}
+use Rattle.archive.specs.Does.{meant, rightSizes}
 
 -- "table not eight rows"
 eight-rows : (t : List ℕ) → eqb (length (rowsOf t)) 8 ≡ eqb (length t) 96
@@ -34,36 +34,29 @@ module _ (c : Control) (a t : List ℕ) where
   unfolding wrongSize rightSizes
   size-test = rw (eight-rows t)
 
-  pub size-refused : rightSizes a t ≡ false → refusalOf (meant c a t) ≡ 1
-  unfolding refusalOf
+  pub size-refused : rightSizes a t ≡ false → given (callRefusals (meant c a t)) ≡ 1
   size-refused e = rw (size-test, e)
 
-  pub unsound-refused : rightSizes a t ≡ true → firstBroken (meant c a t) ≢ 0 → refusalOf (meant c a t) ≡ 2
-  unfolding refusalOf unsound
+  pub unsound-refused : rightSizes a t ≡ true → firstBroken (meant c a t) ≢ 0 → given (callRefusals (meant c a t)) ≡ 2
+  unfolding unsound
   unsound-refused e n = rw (size-test, e, ne-eqb (firstBroken (meant c a t)) 0 n)
 
-  pub sound-passes : rightSizes a t ≡ true → firstBroken (meant c a t) ≡ 0 → refusalOf (meant c a t) ≡ 0
-  unfolding refusalOf unsound
-  sound-passes e f = rw (size-test, e, eq-eqb (firstBroken (meant c a t)) 0 f)
-
--- where neither 1 nor 2 is given neither applies
-neither : (p q : Bool) → refuse (1 if p ∷ 2 if q ∷ []) (λ (n : ℕ). n) 0 ≡ 0 → (p ≡ false) × (q ≡ false)
-neither true q e = absurd (omega arith)
-neither false true e = absurd (omega arith)
-neither false false e = (refl, refl)
+  pub none-refused : rightSizes a t ≡ true → firstBroken (meant c a t) ≡ 0 → given (callRefusals (meant c a t)) ≡ 0
+  unfolding unsound
+  none-refused e f = rw (size-test, e, eq-eqb (firstBroken (meant c a t)) 0 f)
 
 pub record Passes (c : Control) (a t : List ℕ) : Type 0 where
   pub rows : Rows (meant c a t)
   pub words : tableWords (rowsOf t) ≡ t
 
-pub passes : (c : Control) (a t : List ℕ) → refusalOf (meant c a t) ≡ 0 → Passes c a t
-unfolding refusalOf rightSizes unsound
+pub passes : (c : Control) (a t : List ℕ) → given (callRefusals (meant c a t)) ≡ 0 → Passes c a t
+unfolding rightSizes unsound
 passes c a t e =
     let s : State = meant c a t in
-    let both = neither (wrongSize s) (unsound s) e in
-    let sizes : rightSizes a t ≡ true = not-false (rightSizes a t) (sym (size-test c a t) ∙ both .0) in
+    let neither = none-given (callRefusals s) refl e in
+    let sizes : rightSizes a t ≡ true = not-false (rightSizes a t) (sym (size-test c a t) ∙ neither .0) in
     let n : length t ≡ 96 = eqb-true (length t) 96 (and-parts (eqb (length a) 8192) (eqb (length t) 96) sizes .1) in
-    let sound : firstBroken s ≡ 0 = eqb-true (firstBroken s) 0 (not-false (eqb (firstBroken s) 0) (both .1)) in
+    let sound : firstBroken s ≡ 0 = eqb-true (firstBroken s) 0 (not-false (eqb (firstBroken s) 0) (neither .1 .0)) in
     record {
       rows = record { eight = length-rows t n; four = four-rows-of t };
       words = sound-words (c .dir) (c .mv) a t n (says-R6 (c .dir) (c .mv) a (rowsOf t) .test (sound-of s sound .r6));

@@ -1,7 +1,7 @@
 -- What a call of the library does: its answer, the control record, and each word of what is lent, as the model's call has them.
 use mathlib.Core.Path.{_≡_}
 use mathlib.Core.Bool.{Bool}
-use mathlib.Core.List.{List, [], _∷_}
+use mathlib.Core.List.{List}
 use Prim.Native.Nat.{ℕ}
 use lib.Dec.{eqb, ltb}
 use lib.ListN.{length}
@@ -10,8 +10,7 @@ use Rattle.model.specs.declared.Control.{Control}
 use Rattle.model.specs.declared.Answer.{Answer}
 use Rattle.model.specs.Choice.{pick, _and_}
 use Rattle.model.specs.State.{State, state, Outcome, number}
-use Rattle.model.specs.Refusals.{Refusal, _if_, refuse}
-use Rattle.model.specs.Steps.{wrongSize, unsound, Ran}
+use Rattle.model.specs.Steps.{Ran}
 use Rattle.table.specs.Words.{tableWords, rowsOf}
 use Rattle.archive.specs.declared.Reply.{Reply}
 
@@ -45,13 +44,6 @@ pub record RunDoes (before : List ℕ) (r : Reply) (a t s : List ℕ) (o : Ran) 
 pub record LookDoes (r : Reply) (o : Outcome) : Type 0 where
   pub answer : r .answer ≡ o .answer
   pub control : r .control ≡ o .next .control
-
--- 1 and 2, or 0 where neither applies
-abbrev pub callRefusals : State → List Refusal
-callRefusals s = 1 if wrongSize s ∷ 2 if unsound s ∷ []
-
-unfoldable pub refusalOf : State → ℕ
-refusalOf s = refuse (callRefusals s) (λ n. n) 0
 
 -- "arena is not 8,192 words, or table not eight rows" of twelve words
 unfoldable pub rightSizes : List ℕ → List ℕ → Bool

@@ -2,8 +2,9 @@
 // Sizes first, then soundness, once a call; a refused call changes nothing.
 ghost use mathlib.Core.Path.{_≡_};
 ghost use lib.ListN.{length, replicate};
-ghost use Rattle.model.specs.Steps.{step, freshCall, stepCall, runCall, fillCall, auditCall, runSizes};
-ghost use Rattle.archive.specs.Does.{meant, CallDoes, RunDoes, LookDoes, refusalOf, rightSizes};
+ghost use Rattle.model.specs.Refusals.{given};
+ghost use Rattle.model.specs.Steps.{step, callRefusals, freshCall, stepCall, runCall, fillCall, auditCall, runSizes};
+ghost use Rattle.archive.specs.Does.{meant, CallDoes, RunDoes, LookDoes, rightSizes};
 use model::Answer;
 use model::Control;
 use model::Move;
@@ -32,7 +33,7 @@ fn right_sizes(arena: &[u32], table: &[u32]) -> bool
 
 // 1 or 2, the lower that applies; else 0.
 fn refusal(control: Control, arena: &[u32], table: &[u32]) -> u32
-    ensures { λ r. ⌜ r ≡ refusalOf (meant control (now (arena .entry)) (now (table .entry))) ⌝ }
+    ensures { λ r. ⌜ r ≡ given (callRefusals (meant control (now (arena .entry)) (now (table .entry)))) ⌝ }
 {
     if !right_sizes(arena, table) {
         return 1;

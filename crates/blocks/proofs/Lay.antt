@@ -1,30 +1,28 @@
--- A block laid by two masks: each cell of the map is then the maximum of what it was and of what the block covers, and the test says
--- that no cell was in both. Assumes nothing.
+-- A block laid by two masks is the model's run put to 1: each cell of the map is then the maximum of what it was and of what the block
+-- covers, and the test says that no cell was in both. Assumes nothing.
 use mathlib.Core.Path.{_≡_, sym, ap, ap₂, _∙_, subst⁻¹}
 use mathlib.Core.Bool.{Bool, true}
 use mathlib.Core.List.{List}
-use mathlib.Core.Logic.{inl, inr, ⊎-elim}
+use mathlib.Core.Logic.{_⊎_, inl, inr, ⊎-elim}
 use Prim.Native.Nat.{ℕ, _+_, _*_, _/_, _%_, _^_, _<_, _≤_, min, max}
 use native.Mathlib.Omega.{arith}
 use lib.Bits.{bitAnd, bitOr, or-lt, and-lt, and-zero-l}
 use lib.Pow.{pow-pos}
-use lib.ListN.{length, getD, set, length-set, List·getD-eq-default}
-use lib.Seq.{getD-set-same, getD-set-other, set-out}
+use lib.ListN.{length, getD, length-set, List·getD-eq-default}
+use lib.Seq.{getD-set-other, set-out}
 use borrow.Author.Tests.{eq-eqb, eqb-true}
 use Rattle.model.specs.Choice.{_and_}
-use Rattle.model.specs.Arena.{bit, used, IsMap}
+use Rattle.model.specs.Arena.{bit, used, putRun, IsMap}
 use Rattle.model.specs.Rules.{covers}
 use Rattle.model.proofs.Choice.{order, same-or-not, and-parts, and-true}
-use Rattle.model.proofs.Bits.{bit-or, bit-and, bit-high, bits-ext}
-use Rattle.model.proofs.CellMap.{used-at, set-map}
-use Rattle.model.proofs.Covers.{covers-out}
+use Rattle.model.proofs.Bits.{no-bit, bit-and, bits-ext}
+use Rattle.model.proofs.CellMap.{used-at, used-lt, set-map, used-run, used-run-other}
+use Rattle.model.proofs.Covers.{covers-in, covers-out}
 use Rattle.cells.specs.Words.{lowMask, highMask}
-use Rattle.blocks.specs.Lay.{layWord, freeWord, layFirst, lay, free}
+use Rattle.blocks.specs.Lay.{layWord, freeWord, layFirst, free}
 use Rattle.blocks.proofs.Covers.{covers-by}
+use Rattle.cells.proofs.Runs.{run-by-masks, run-past-map}
 use Rattle.cells.proofs.Masks.{low-in, low-out, high-in, high-out, low-fits, high-fits}
-
-zero-bit : (j : ℕ) → bit 0 j ≡ 0
-zero-bit j = bit-high 0 0 j (omega arith) (omega arith)
 
 -- the masks as cells: of c's word, and of the next
 low-covers : (c n j : ℕ) → j < 64 → bit (lowMask (c % 64) n) j ≡ covers c n (64 * (c / 64) + j)
@@ -53,13 +51,6 @@ module _ (m : List ℕ) (w mask : ℕ) where
   unfolding layWord
   word-length = length-set m w (bitOr (getD m w 0) mask)
 
-  word-same : (j : ℕ) → IsMap m → w < 16 → j < 64 → used (layWord m w mask) (64 * w + j) ≡ max (used m (64 * w + j)) (bit mask j)
-  unfolding layWord
-  word-same j h hw hj =
-      used-at (set m w (bitOr (getD m w 0) mask)) w j hj
-      ∙ ap (λ (x : ℕ). bit x j) (getD-set-same m w (bitOr (getD m w 0) mask) 0 (omega (arith, h .sixteen)))
-      ∙ bit-or (getD m w 0) mask j ∙ ap (λ (x : ℕ). max x (bit mask j)) (sym (used-at m w j hj))
-
   word-other : (x : ℕ) → (x / 64 ≡ w → ⊥) → used (layWord m w mask) x ≡ used m x
   unfolding layWord used
   word-other x ne = ap (λ (y : ℕ). bit y (x % 64)) (getD-set-other m w (x / 64) (bitOr (getD m w 0) mask) 0 ne)
@@ -68,7 +59,7 @@ module _ (m : List ℕ) (w mask : ℕ) where
   unfolding freeWord
   word-free e j hj =
       ap (λ (x : ℕ). min x (bit mask j)) (used-at m w j hj) ∙ sym (bit-and (getD m w 0) mask j)
-      ∙ ap (λ (x : ℕ). bit x j) (eqb-true (bitAnd (getD m w 0) mask) 0 e) ∙ zero-bit j
+      ∙ ap (λ (x : ℕ). bit x j) (eqb-true (bitAnd (getD m w 0) mask) 0 e) ∙ no-bit j
 
   -- a word past the map: nothing is laid, nothing is met
   out-zero : length m ≤ w → bitAnd (getD m w 0) mask ≡ 0
@@ -88,7 +79,7 @@ module _ (m : List ℕ) (w mask : ℕ) where
       inside hw =
           bits-ext 64 (bitAnd (getD m w 0) mask) 0 (and-lt 64 (getD m w 0) mask (h .words w) hv) (pow-pos 64)
           (λ j hj.
-          bit-and (getD m w 0) mask j ∙ ap (λ (x : ℕ). min x (bit mask j)) (sym (used-at m w j hj)) ∙ f hw j hj ∙ sym (zero-bit j))
+          bit-and (getD m w 0) mask j ∙ ap (λ (x : ℕ). min x (bit mask j)) (sym (used-at m w j hj)) ∙ f hw j hj ∙ sym (no-bit j))
 
 -- where a cell lies: in the word of c, in the next, or in another
 data Lies (c : ℕ) : ℕ → Type 0 where
@@ -115,28 +106,6 @@ module _ (m : List ℕ) (c n : ℕ) (k : n < 64) where
   first-map : IsMap m → IsMap (layFirst m c n)
   first-map h = word-map m (c / 64) (lowMask (c % 64) n) h (low-fits (c % 64) n)
 
-  pub lay-map : IsMap m → IsMap (lay m c n)
-  unfolding lay
-  lay-map h = word-map (layFirst m c n) (c / 64 + 1) (highMask (c % 64) n) (first-map h) (high-fits (c % 64) n k)
-
-  -- a cell after the block was laid
-  pub lay-used : (x : ℕ) → IsMap m → x < 1024 → used (lay m c n) x ≡ max (used m x) (covers c n x)
-  unfolding lay
-  lay-used x h hx = by (lies c x) hx
-    where
-      by : {x : ℕ} → Lies c x → x < 1024 → used (lay m c n) x ≡ max (used m x) (covers c n x)
-      by (here j hj) hx =
-          word-other (layFirst m c n) (c / 64 + 1) (highMask (c % 64) n) (64 * (c / 64) + j) (λ e. omega arith)
-          ∙ word-same m (c / 64) (lowMask (c % 64) n) j h (omega arith) hj
-          ∙ ap (max (used m (64 * (c / 64) + j))) (low-covers c n j hj)
-      by (next j hj) hx =
-          word-same (layFirst m c n) (c / 64 + 1) (highMask (c % 64) n) j (first-map h) (omega arith) hj
-          ∙ ap₂ max (first-keeps j hj) (high-covers c n j)
-      by {x} (else ne me) hx =
-          let z : covers c n x ≡ 0 = covers-far c n x (omega arith) ne me in
-          word-other (layFirst m c n) (c / 64 + 1) (highMask (c % 64) n) x me ∙ word-other m (c / 64) (lowMask (c % 64) n) x ne
-          ∙ omega arith
-
   -- no cell of the block was used: what the test tells, and what it asks
   pub free-tells : free m c n ≡ true → (x : ℕ) → min (used m x) (covers c n x) ≡ 0
   unfolding free
@@ -161,14 +130,27 @@ module _ (m : List ℕ) (c n : ℕ) (k : n < 64) where
       (word-is-free (layFirst m c n) (c / 64 + 1) (highMask (c % 64) n) (first-map h) (high-fits (c % 64) n k)
       (λ hw j hj. ap₂ min (first-keeps j hj) (high-covers c n j) ∙ f (64 * (c / 64 + 1) + j) (omega arith)))
 
+-- a cell after the block was laid
+pub run-used : (m : List ℕ) (c n x : ℕ) → IsMap m → x < 1024 → used (putRun m c n 1) x ≡ max (used m x) (covers c n x)
+run-used m c n x h hx = ⊎-elim (λ p. outside (inl p)) (λ p. ⊎-elim (inside p) (λ q. outside (inr q)) (order x (c + n))) (order x c)
+  where
+    inside : c ≤ x → x < c + n → used (putRun m c n 1) x ≡ max (used m x) (covers c n x)
+    inside p q = used-run m c n 1 x h (omega arith) p q hx ∙ omega (arith, covers-in c n x p q, used-lt m x)
+
+    outside : (x < c) ⊎ (c + n ≤ x) → used (putRun m c n 1) x ≡ max (used m x) (covers c n x)
+    outside o =
+        let z : covers c n x ≡ 0 = covers-out c n x (λ p q. ⊎-elim (λ r. omega arith) (λ r. omega arith) o) in
+        used-run-other m c n 1 x (omega arith) o ∙ omega arith
+
 -- a block that starts beyond the cells is not laid and meets none
-pub far-block : (m : List ℕ) (c n : ℕ) → length m ≡ 16 → 1024 ≤ c → (lay m c n ≡ m) × (free m c n ≡ true)
-unfolding lay free
-far-block m c n l h =
-    let p = word-out m (c / 64) (lowMask (c % 64) n) (omega arith) in
-    let q = word-out m (c / 64 + 1) (highMask (c % 64) n) (omega arith) in
-    let f = and-true (freeWord m (c / 64) (lowMask (c % 64) n)) (freeWord m (c / 64 + 1) (highMask (c % 64) n)) (p .1) (q .1) in
-    (rw (p .0) (q .0), rw (p .0) f)
+pub far-block : (m : List ℕ) (c n : ℕ) → IsMap m → n < 64 → 1024 ≤ c → (putRun m c n 1 ≡ m) × (free m c n ≡ true)
+unfolding free
+far-block m c n h k p =
+    let l : length m ≡ 16 = h .sixteen in
+    let low = word-out m (c / 64) (lowMask (c % 64) n) (omega arith) in
+    let high = word-out m (c / 64 + 1) (highMask (c % 64) n) (omega arith) in
+    let f = and-true (freeWord m (c / 64) (lowMask (c % 64) n)) (freeWord m (c / 64 + 1) (highMask (c % 64) n)) (low .1) (high .1) in
+    (run-past-map m c n true h k p, rw (low .0) f)
 
 -- how the code's numbers enter: the two masks, the map after the first
 module _ (m : List ℕ) (c n : ℕ) {lo hi : ℕ} {m′ : List ℕ}
@@ -177,6 +159,6 @@ module _ (m : List ℕ) (c n : ℕ) {lo hi : ℕ} {m′ : List ℕ}
   unfolding free
   block-free h k = rw (h, k, g, e, f)
 
-  pub block-laid : {m″ : List ℕ} → m″ ≡ layWord m′ (c / 64 + 1) hi → m″ ≡ lay m c n
-  unfolding lay
-  block-laid h = rw (h, g, e, f)
+  pub block-laid : {m″ : List ℕ} → IsMap m → n < 64 → m″ ≡ layWord m′ (c / 64 + 1) hi → m″ ≡ putRun m c n 1
+  unfolding layWord
+  block-laid map k h = rw (h, g, e, f) (sym (run-by-masks m c n true map k))

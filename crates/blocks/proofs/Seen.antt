@@ -3,7 +3,7 @@
 use mathlib.Core.Path.{_≡_, refl, sym, ap, _∙_, subst, subst⁻¹}
 use mathlib.Core.Bool.{Bool, true, false}
 use mathlib.Core.List.{List}
-use Prim.Native.Nat.{ℕ, zero, suc, _+_, _<_, _≤_}
+use Prim.Native.Nat.{ℕ, _+_, _<_, _≤_}
 use native.Mathlib.Numerals.{add-one}
 use native.Mathlib.Omega.{arith}
 use lib.ListN.{length, getD, take, replicate}
@@ -11,30 +11,23 @@ use lib.Seq.{ext-getD, take-length}
 use Rattle.model.specs.declared.Lengths.{Lengths}
 use Rattle.model.specs.declared.Move.{Move}
 use Rattle.model.specs.Choice.{pick, every, total}
-use Rattle.model.specs.Arena.{kindTable, ofKind, cells, none, label, kindOf, cellsAt, used, IsMap}
+use Rattle.model.specs.Arena.{ofKind, none, label, kindOf, cellsAt, used, putRun, IsMap}
 use Rattle.model.specs.State.{Stage, idle, firstBarrier, copying, secondBarrier, thirdBarrier, stageOf, entry}
 use Rattle.model.specs.Rules.{early, late, covers, recordCovers, otherCovers, blocksOver, R3}
 use Rattle.model.proofs.Choice.{clash}
 use Rattle.model.proofs.Says.{Says, says-as, says-same, says-every, says-eq, refute}
 use Rattle.model.proofs.Readings.{CellsRight, says-R3}
-use Rattle.model.proofs.CellMap.{used-lt, fresh-map, fresh-free, map-ext}
+use Rattle.model.proofs.CellMap.{used-lt, run-map, fresh-map, fresh-free, map-ext}
+use Rattle.model.proofs.ByKind.{cells-short}
 use Rattle.model.proofs.Covers.{covers-le, covers-out}
 use Rattle.blocks.specs.declared.Block.{Block}
-use Rattle.blocks.specs.Lay.{lay, free, sameWord, block, otherBlock}
+use Rattle.blocks.specs.Lay.{free, sameWord, block, otherBlock}
 use Rattle.blocks.proofs.Covers.{record-covers, total-more, total-part}
-use Rattle.blocks.proofs.Lay.{lay-map, lay-used, free-tells, is-free}
+use Rattle.blocks.proofs.Lay.{run-used, free-tells, is-free}
 
 -- a record's cells fit a mask
-by-kind-small : (k : ℕ) → cells k < 64
-unfolding ofKind kindTable
-by-kind-small zero = omega arith
-by-kind-small (suc zero) = omega arith
-by-kind-small (suc (suc zero)) = omega arith
-by-kind-small (suc (suc (suc zero))) = omega arith
-by-kind-small (suc (suc (suc (suc k)))) = omega arith
-
 pub cells-small : (arena : List ℕ) (c : ℕ) → cellsAt arena c < 64
-cells-small arena c = by-kind-small (kindOf (label arena c))
+cells-small arena c = cells-short (kindOf (label arena c))
 
 -- how the code reads them
 pub cells-read : (arena : List ℕ) (c : ℕ) {n : Lengths} → n ≡ ofKind (kindOf (label arena c)) → n .cells ≡ cellsAt arena c
@@ -85,8 +78,8 @@ seen-none dir arena = record { map = fresh-map; at = λ x h. fresh-free x }
 
 -- a block that meets none is added at each cell
 laid-at : (seen : List ℕ) (c n x : ℕ) → IsMap seen → n < 64 → x < 1024 → free seen c n ≡ true
-    → used (lay seen c n) x ≡ used seen x + covers c n x
-laid-at seen c n x h k hx f = lay-used seen c n k x h hx ∙ omega (arith, free-tells seen c n k f x, used-lt seen x, covers-le c n x)
+    → used (putRun seen c n 1) x ≡ used seen x + covers c n x
+laid-at seen c n x h k hx f = run-used seen c n x h hx ∙ omega (arith, free-tells seen c n k f x, used-lt seen x, covers-le c n x)
 
 -- a block that does not fit beside those seen breaks the rule
 met : (seen map : List ℕ) (c n : ℕ) {over : ℕ → ℕ} → IsMap seen → n < 64 → free seen c n ≡ false
@@ -97,12 +90,12 @@ met seen map c n h k f room e =
 module _ (dir map : List ℕ) (v : Move) (arena seen : List ℕ) where
   -- one entry more
   pub seen-more : (i : ℕ) → i < length dir → Seen dir arena i seen → free seen (entry dir i) (cellsAt arena (entry dir i)) ≡ true
-      → Seen dir arena (i + 1) (lay seen (entry dir i) (cellsAt arena (entry dir i)))
+      → Seen dir arena (i + 1) (putRun seen (entry dir i) (cellsAt arena (entry dir i)) 1)
   seen-more i h s f =
       let c : ℕ = entry dir i in
       let k = cells-small arena c in
       record {
-        map = lay-map seen c (cellsAt arena c) k (s .map);
+        map = run-map seen c (cellsAt arena c) 1 (s .map) (omega arith);
         at = λ x hx.
             let add : ℕ → ℕ = recordCovers arena x in
             let more : total add (take (i + 1) dir) ≡ total add (take i dir) + add c =
@@ -152,14 +145,14 @@ module _ (dir map : List ℕ) (v : Move) (arena seen : List ℕ) (s : Seen dir a
 
   -- the words of the map built and of the map decide the rest
   pub words-decide : IsMap map → free seen (other .start) (other .cells) ≡ true
-      → every 16 (sameWord (lay seen (other .start) (other .cells)) map) ≡ R3 dir map v arena
+      → every 16 (sameWord (putRun seen (other .start) (other .cells) 1) map) ≡ R3 dir map v arena
   words-decide hm f = says-same (says-as right same (says-words built map isMap hm)) (says-R3 dir map v arena)
     where
       built : List ℕ
-      built = lay seen (other .start) (other .cells)
+      built = putRun seen (other .start) (other .cells) 1
 
       isMap : IsMap built
-      isMap = lay-map seen (other .start) (other .cells) small (s .map)
+      isMap = run-map seen (other .start) (other .cells) 1 (s .map) (omega arith)
 
       at : (x : ℕ) → x < 1024 → used built x ≡ blocksOver dir v arena x
       at x hx = laid-at seen (other .start) (other .cells) x (s .map) small hx f ∙ all-blocks x hx
@@ -176,9 +169,9 @@ module _ (dir map : List ℕ) (v : Move) (arena seen : List ℕ) (i : ℕ) (len 
   turn-free : r ≡ free seen (entry dir i) (cellsAt arena (entry dir i))
   turn-free = er ∙ ap (λ (c : ℕ). free seen c (cellsAt arena c)) ec
 
-  pub turn-on : {next : List ℕ} → next ≡ lay seen c (cellsAt arena c) → r ≡ true → Seen dir arena (i + 1) next
+  pub turn-on : {next : List ℕ} → next ≡ putRun seen c (cellsAt arena c) 1 → r ≡ true → Seen dir arena (i + 1) next
   turn-on e t =
-      subst⁻¹ (Seen dir arena (i + 1)) (e ∙ ap (λ (c : ℕ). lay seen c (cellsAt arena c)) ec)
+      subst⁻¹ (Seen dir arena (i + 1)) (e ∙ ap (λ (c : ℕ). putRun seen c (cellsAt arena c) 1) ec)
       (seen-more dir map v arena seen i (omega arith) s (sym turn-free ∙ t))
 
   pub turn-stops : r ≡ false → R3 dir map v arena ≡ false
@@ -196,6 +189,6 @@ module _ (dir map : List ℕ) (v : Move) (arena seen : List ℕ) {i : ℕ} (len 
   pub end-stops : r ≡ false → R3 dir map v arena ≡ false
   end-stops t = other-stops dir map v arena seen whole (rw eb at (sym er ∙ t))
 
-  pub end-same : {next : List ℕ} {q : Bool} → IsMap map → next ≡ lay seen (b .start) (b .cells) → r ≡ true
+  pub end-same : {next : List ℕ} {q : Bool} → IsMap map → next ≡ putRun seen (b .start) (b .cells) 1 → r ≡ true
       → q ≡ every 16 (sameWord next map) → q ≡ R3 dir map v arena
   end-same h e t f = f ∙ rw (e, eb) (words-decide dir map v arena seen whole h (rw eb at (sym er ∙ t)))

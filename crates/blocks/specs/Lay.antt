@@ -1,4 +1,4 @@
--- A block laid into a map of cells by two masks, and the move's other block.
+-- A mask laid into a word of a map of cells, that a block meets no cell there, and the move's other block.
 use mathlib.Core.Bool.{Bool}
 use mathlib.Core.List.{List}
 use Prim.Native.Nat.{ℕ, _+_, _/_, _%_}
@@ -19,12 +19,9 @@ layWord m w mask = set m w (bitOr (getD m w 0) mask)
 unfoldable pub freeWord : List ℕ → ℕ → ℕ → Bool
 freeWord m w mask = eqb (bitAnd (getD m w 0) mask) 0
 
--- the n cells from c on laid into the map, in c's word and then in the next; and that none of them was there
+-- none of the n cells from c on was there: in c's word, and then in the next
 abbrev pub layFirst : List ℕ → ℕ → ℕ → List ℕ
 layFirst m c n = layWord m (c / 64) (lowMask (c % 64) n)
-
-unfoldable pub lay : List ℕ → ℕ → ℕ → List ℕ
-lay m c n = layWord (layFirst m c n) (c / 64 + 1) (highMask (c % 64) n)
 
 unfoldable pub free : List ℕ → ℕ → ℕ → Bool
 free m c n = freeWord m (c / 64) (lowMask (c % 64) n) and freeWord (layFirst m c n) (c / 64 + 1) (highMask (c % 64) n)

@@ -3,11 +3,11 @@
 ghost use mathlib.Core.Path.{_≡_};
 ghost use Prim.Native.Nat.{_<_};
 ghost use lib.ListN.{length};
-ghost use Rattle.model.specs.Arena.{cellsAt, IsMap};
+ghost use Rattle.model.specs.Arena.{cellsAt, putRun, IsMap};
 ghost use Rattle.model.specs.State.{stageOf};
 ghost use Rattle.model.specs.Rules.{early, late, R3};
 ghost use Rattle.model.specs.Choice.{every};
-ghost use Rattle.blocks.specs.Lay.{layWord, freeWord, lay, free, sameWord, otherBlock};
+ghost use Rattle.blocks.specs.Lay.{layWord, freeWord, free, sameWord, otherBlock};
 
 const CELLS: u32 = 1024;
 
@@ -52,9 +52,9 @@ fn lay_word(seen: &mut [u64; 16], w: u32, mask: u64) -> bool
 
 // The n cells from c on are laid into the map; whether none was there.
 fn lay_block(seen: &mut [u64; 16], c: u32, n: u32) -> bool
-    requires { ⌜ (n < 64) × (length (now seen) ≡ 16) ⌝ }
+    requires { ⌜ (n < 64) × IsMap (now seen) ⌝ }
     ensures free { λ r. ⌜ r ≡ free (now (seen .entry)) c n ⌝ }
-    ensures laid { λ r. ⌜ now (seen .exit) ≡ lay (now (seen .entry)) c n ⌝ }
+    ensures laid { λ r. ⌜ now (seen .exit) ≡ putRun (now (seen .entry)) c n 1 ⌝ }
 {
     if CELLS <= c {
         return true;
@@ -66,9 +66,9 @@ fn lay_block(seen: &mut [u64; 16], c: u32, n: u32) -> bool
 
 // The block of the record at cell c is laid; whether none of its cells was there.
 fn lay_record(seen: &mut [u64; 16], arena: &[u32], c: u32) -> bool
-    requires { ⌜ length (now seen) ≡ 16 ⌝ }
+    requires { ⌜ IsMap (now seen) ⌝ }
     ensures free { λ r. ⌜ r ≡ free (now (seen .entry)) c (cellsAt (now (arena .entry)) c) ⌝ }
-    ensures laid { λ r. ⌜ now (seen .exit) ≡ lay (now (seen .entry)) c (cellsAt (now (arena .entry)) c) ⌝ }
+    ensures laid { λ r. ⌜ now (seen .exit) ≡ putRun (now (seen .entry)) c (cellsAt (now (arena .entry)) c) 1 ⌝ }
 {
     if CELLS <= c {
         return true;

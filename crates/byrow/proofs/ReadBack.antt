@@ -16,7 +16,7 @@ use Rattle.model.specs.Steps.{refused, wrongSize, runCall, Ran}
 use Rattle.model.proofs.Choice.{clash}
 use Rattle.model.proofs.Calls.{run-wrong-size}
 use Rattle.table.specs.Words.{tableWords, rowsRead}
-use Rattle.table.proofs.FourHolds.{FourHolds as FourEach, four-of-all}
+use Rattle.table.proofs.FourHolds.{RowsOfFour, four-of-all}
 use Rattle.table.proofs.Rows.{rows-of-words}
 use Rattle.rows.specs.declared.Eight.{Eight}
 use Rattle.rows.specs.Eight.{rowsIn}
@@ -59,7 +59,7 @@ module _ {g : State → Outcome} (G : Tests g) (c : Control) (a : List ℕ) (e :
 
 -- the calls on eight rows: their words are worked on, and read back
 module _ (c : Control) (a : List ℕ) (e : Eight) (n : ℕ) (eight : n ≡ 8) (holds : All FourHolds (rowsIn e)) where
-  four : FourEach (rowsIn e)
+  four : RowsOfFour (rowsIn e)
   four = four-of-all {table = rowsIn e} holds
 
   meant-rows : meant c a (tableWords (rowsIn e)) ≡ state c a (tableOf n e)

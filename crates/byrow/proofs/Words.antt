@@ -16,7 +16,7 @@ use Rattle.model.specs.Rows.{FourHolds}
 use Rattle.model.proofs.Choice.{by-test}
 use Rattle.model.proofs.Row as T
 use Rattle.table.specs.Words.{tableWords, listFrom, rowRead, rowsRead, putRow}
-use Rattle.table.proofs.FourHolds.{FourHolds as FourEach}
+use Rattle.table.proofs.FourHolds.{RowsOfFour}
 use Rattle.table.proofs.Rows.{rows-read, put-row}
 use Rattle.rows.specs.declared.Eight.{Eight}
 use Rattle.rows.specs.Eight.{rowsIn}
@@ -36,7 +36,7 @@ pub row-stored : (table : List Row) (i : ℕ) (r : Row) {t u : List ℕ} → u �
 row-stored table i r e f = rw (e, f) (put-row table i r)
 
 -- what a call leaves in the words of eight rows is read as the rows that it leaves
-pub read-after : (l : List Row) → length l ≡ 8 → FourEach l → (x : Answer) (next : List Row) → length next ≡ 8 → FourEach next
+pub read-after : (l : List Row) → length l ≡ 8 → RowsOfFour l → (x : Answer) (next : List Row) → length next ≡ 8 → RowsOfFour next
     → (isRefused x ≡ true → next ≡ l) → {t : List ℕ} → t ≡ wordsAfter (tableWords l) x next → rowsRead t ≡ next
 unfolding wordsAfter
 read-after l n h x next m k same e =

@@ -9,7 +9,7 @@ use lib.Bits.{or-lt, and-lt}
 use lib.Pow.{pow-pos, pow-lt, shl-shr, shr-le, ones-lt}
 use Rattle.model.specs.Choice.{one}
 use Rattle.model.specs.Arena.{bit}
-use Rattle.model.proofs.Bits.{bit-lt, bit-shr, bit-low, bit-high, bit-not, bit-or, bit-and}
+use Rattle.model.proofs.Bits.{bit-lt, no-bit, bit-shr, bit-low, bit-high, bit-not, bit-or, bit-and}
 use Rattle.cells.specs.Words.{lowMask, highMask, masked, sought}
 
 -- `1 << n`
@@ -19,8 +19,7 @@ one-shl n h = ap (λ (x : ℕ). x % 2 ^ 64) (one-mul (2 ^ n)) ∙ mod-eq-of-lt (
 -- n ones, and zeros above them
 ones-in : (n j : ℕ) → j < n → bit (2 ^ n - 1) j ≡ 1
 ones-in n j h =
-    let z : bit 0 j ≡ 0 = bit-high 0 0 j (omega arith) (omega arith) in
-    ap (λ (x : ℕ). bit x j) (sym (sub-zero (2 ^ n - 1))) ∙ omega (arith, bit-not n 0 j (pow-pos n) h)
+    ap (λ (x : ℕ). bit x j) (sym (sub-zero (2 ^ n - 1))) ∙ omega (arith, bit-not n 0 j (pow-pos n) h, no-bit j)
 
 ones-out : (n j : ℕ) → n ≤ j → bit (2 ^ n - 1) j ≡ 0
 ones-out n j h = bit-high n (2 ^ n - 1) j (ones-lt n) h
@@ -43,7 +42,7 @@ low-out k n j h o = ⊎-elim below above o
     below : j < k → bit (lowMask k n) j ≡ 0
     below p =
         bit-low ((2 ^ n - 1) * 2 ^ k) 64 j h ∙ sym (bit-low ((2 ^ n - 1) * 2 ^ k) k j p)
-        ∙ ap (λ (x : ℕ). bit x j) (mul-mod-left (2 ^ n - 1) (2 ^ k)) ∙ bit-high 0 0 j (omega arith) (omega arith)
+        ∙ ap (λ (x : ℕ). bit x j) (mul-mod-left (2 ^ n - 1) (2 ^ k)) ∙ no-bit j
 
     above : k + n ≤ j → bit (lowMask k n) j ≡ 0
     above p = low-shifted k n j h (omega arith) ∙ ones-out n (j - k) (omega arith)

@@ -1,6 +1,6 @@
 -- A run is put by two masks, one in its first word and one in the next: cell by cell the map is the model's. Assumes nothing.
 use mathlib.Core.Path.{_≡_, sym, ap, _∙_}
-use mathlib.Core.Bool.{Bool, true, false}
+use mathlib.Core.Bool.{Bool}
 use mathlib.Core.List.{List}
 use mathlib.Core.Logic.{_⊎_, inl, inr, ⊎-elim}
 use Prim.Native.Nat.{ℕ, _+_, _/_, _%_, _^_, _≤_, _<_}
@@ -10,6 +10,7 @@ use lib.Seq.{getD-set-same, getD-set-other, set-out}
 use Rattle.model.specs.Choice.{one}
 use Rattle.model.specs.Arena.{bit, used, putRun, IsMap}
 use Rattle.model.proofs.Choice.{order, same-or-not}
+use Rattle.model.proofs.Says.{one-le}
 use Rattle.model.proofs.CellMap.{set-map, run-map, used-run, used-run-other, map-ext}
 use Rattle.cells.specs.Words.{lowMask, highMask, masked}
 use Rattle.cells.proofs.Masks.{low-in, low-out, high-in, high-out, low-fits, high-fits, masked-fits, masked-in, masked-out}
@@ -88,8 +89,7 @@ module _ (m : List ℕ) (c n x : ℕ) (to : Bool) (h : IsMap m) (k : n < 64) (hx
           word-other (lowPut m c n to) (c / 64 + 1) (highMask (c % 64) n) x to me ∙ word-other m (c / 64) (lowMask (c % 64) n) x to ne
 
 one-lt : (to : Bool) → one to < 2
-one-lt true = omega arith
-one-lt false = omega arith
+one-lt to = omega (arith, one-le to)
 
 -- THE LAW: a run of fewer than 64 cells, put anywhere, is the two masks put
 pub run-by-masks : (m : List ℕ) (c n : ℕ) (to : Bool) → IsMap m → n < 64 → putRun m c n (one to) ≡ bothPut m c n to

@@ -1,8 +1,7 @@
-// The free map, "one bit per cell, set when used": cell c is bit c % 64 of word c / 64. Test, take, free, count, search.
+// The free map, "one bit per cell, set when used": cell c is bit c % 64 of word c / 64. Take, free, count, search.
 // Knows nothing of records: what lies outside the 1,024 cells is free and stays so.
 ghost use mathlib.Core.Path.{_≡_};
 ghost use Prim.Native.Nat.{_<_, _≤_};
-ghost use lib.Dec.{eqb};
 ghost use Rattle.model.specs.Arena.{used, putRun, fill, lowestRun, IsMap};
 ghost use Rattle.model.specs.Choice.{one};
 ghost use Rattle.cells.specs.Words.{lowMask, highMask, masked, sought, NextCell};
@@ -14,16 +13,6 @@ const NONE: u32 = 65535;
 const FREE: bool = false;
 
 const USED: bool = true;
-
-// Whether cell c is used.
-pub fn is_used(map: [u64; 16], c: u32) -> bool
-    ensures { λ r. ⌜ r ≡ eqb (used map c) 1 ⌝ }
-{
-    if CELLS <= c {
-        return false;
-    }
-    (map[(c / 64) as usize] >> (c % 64)) & 1 == 1
-}
 
 // n ones from bit k on: those of the word itself.
 pub fn low_mask(k: u32, n: u32) -> u64

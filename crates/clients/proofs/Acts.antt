@@ -7,8 +7,8 @@ use native.Mathlib.Omega.{arith}
 use lib.ListN.{getD, drop, replicate, getD-replicate, List·getD-append, List·getD-eq-default}
 use lib.Seq.{set-getD}
 use borrow.Author.Tests.{lt-ltb}
-use Rattle.model.specs.Choice.{all}
-use Rattle.model.proofs.Choice.{and-parts, clash}
+use Rattle.model.proofs.Choice.{clash}
+use Rattle.model.proofs.Says.{all-test}
 use Rattle.model.specs.declared.Row.{Row}
 use Rattle.model.specs.declared.Stepped.{Stepped}
 use Rattle.model.specs.declared.Access.the-variants.{Read, Write}
@@ -63,11 +63,6 @@ clients REST = true
 clients UNKNOWN = true
 clients NOBODY = false
 
-one-of : (l : List Name) (i : ℕ) → all clients l ≡ true → clients (getD l i UNKNOWN) ≡ true
-one-of [] i e = refl
-one-of (n ∷ l) zero e = and-parts (clients n) (all clients l) e .0
-one-of (n ∷ l) (suc i) e = one-of l i (and-parts (clients n) (all clients l) e .1)
-
 abbrev pub turnOf : Name → State → Step → Stepped
 turnOf n s t = clientTurn n (s .arena) (ownRow s t) (entry (s .control .dir) (t .a)) (t .a) (t .b) (t .v)
 
@@ -94,4 +89,4 @@ pub act-client : (s : State) (t : Step) → 0 < t .who → t .who < 9
 unfolding act
 act-client s t p q =
     rw (client-named (t .who) (t .code) p q)
-    (by-name (getD clientCodes (t .code) UNKNOWN) s t (one-of clientCodes (t .code) refl))
+    (by-name (getD clientCodes (t .code) UNKNOWN) s t (all-test clients clientCodes (t .code) refl refl))

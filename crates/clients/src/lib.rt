@@ -77,7 +77,7 @@ fn drop_refusal(row: Row, hold: u32) -> u32
     choose(3 < hold, 5, n6)
 }
 
-// What refuses READ and WRITE, the hot steps: by early returns.
+// What refuses READ and WRITE: by early returns, so that a label is read only where the hold is filled.
 fn access_refusal(arena: &[u32], row: Row, hold: u32, word: u32) -> u32
     ensures { λ r. ⌜ r ≡ given (accessRefusals (now (arena .entry)) row hold word) ⌝ }
 {

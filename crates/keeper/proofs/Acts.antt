@@ -5,15 +5,17 @@ use mathlib.Core.List.{List}
 use Prim.Native.Nat.{ℕ}
 use Rattle.model.specs.Choice.{any}
 use Rattle.model.specs.Arena.{cells, start, cellsAt, newRecord, laid, lowestRun}
-use Rattle.model.specs.State.{entry, State}
+use Rattle.model.specs.State.{entry, State, state, Outcome, outcome}
 use Rattle.model.specs.Refusals.{Refusal, holdsCell, admitRefusals, beginRefusals, retireRefusals}
 use Rattle.model.specs.Steps.{Step, ADMIT, RETIRE, BEGIN, nameOf, act}
 use Rattle.model.proofs.Refusals.{refuse-map}
 use Rattle.mover.specs.declared.Kept.{Kept}
-use Rattle.mover.specs.Kept.{placed}
-use Rattle.mover.proofs.Acts.{act-named}
+use Rattle.mover.proofs.Acts.{placed, act-named}
 use Rattle.keeper.specs.Kept.{refusedKept, retiredKept, retireStep, begunKept, beginStep, admittedKept, admitStep, admitArena}
-use Rattle.keeper.specs.Kept.{placedWith}
+
+-- ADMIT: the arena beside the rest
+abbrev pub placedWith : State → Kept → List ℕ → Outcome
+placedWith s o arena = outcome (o .answer) (state (o .control) arena (s .table))
 
 pub retire-acts : (s : State) (t : Step) → nameOf t ≡ RETIRE
     → act s t ≡ placed s (retireStep (s .control) (s .arena) (any (holdsCell (entry (s .control .dir) (t .a))) (s .table)) (t .a))

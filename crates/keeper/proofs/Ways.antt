@@ -1,18 +1,16 @@
 -- The ways that RETIRE, BEGIN and ADMIT go: refused by a number found first, by a later line, or done. Assumes nothing.
 use mathlib.Core.Path.{_≡_, refl}
-use mathlib.Core.Bool.{Bool, true, false, not}
+use mathlib.Core.Bool.{Bool, true, false}
 use mathlib.Core.List.{List, [], _∷_}
 use Prim.Native.Nat.{ℕ, _≤_, _<_}
 use native.Mathlib.Omega.{arith}
-use lib.Dec.{eqb, ltb, leb}
+use lib.Dec.{eqb, leb}
 use borrow.Author.Tests.{eq-eqb, ne-eqb, le-leb, lt-leb, ltb-false}
 use Rattle.model.specs.declared.Control.{Control}
-use Rattle.model.specs.Choice.{pick}
 use Rattle.model.specs.Arena.{cells, none, cellsAt, lowestRun}
 use Rattle.model.specs.State.{entry}
-use Rattle.model.specs.Refusals.{_if_, refuse, isNone, admitRefusals}
-use Rattle.model.specs.Refusals.{given}
-use Rattle.model.proofs.Refusals.{refused-by-given, accepted-by-given}
+use Rattle.model.specs.Refusals.{_if_, refuse, given, isNone, admitRefusals}
+use Rattle.model.proofs.Refusals.{refused-by-given, none-given, accepted-by-given}
 use Rattle.keeper.specs.Kept.{refusedKept, recordRefusals, newRefusals, retiredKept, retireStep, begunKept, beginStep}
 
 -- no line applied, where the number found is not above 0
@@ -86,10 +84,6 @@ module _ {A : Type 0} (c : Control) (meter kind : ℕ) (f : ℕ → A) (o : A) w
 
 -- what an accepted ADMIT says of its numbers
 pub admit-numbers : (c : Control) (meter kind : ℕ) → newNumber c meter kind ≡ 0 → (meter ≤ 255) × (kind ≤ 3)
-admit-numbers c meter kind e = by (ltb 255 meter) refl (ltb 3 kind) refl e
-  where
-    by : (p : Bool) → ltb 255 meter ≡ p → (q : Bool) → ltb 3 kind ≡ q
-        → pick p 5 (pick q 5 (given (7 if not (isNone (entry (c .dir) meter)) ∷ []))) ≡ 0 → (meter ≤ 255) × (kind ≤ 3)
-    by true p q r e = absurd (omega arith)
-    by false p true r e = absurd (omega arith)
-    by false p false r e = (ltb-false 255 meter p, ltb-false 3 kind r)
+admit-numbers c meter kind e =
+    let p = none-given (newRefusals (c .dir) meter kind) refl e in
+    (ltb-false 255 meter (p .0), ltb-false 3 kind (p .1 .0))

@@ -1,5 +1,5 @@
 -- What ADMIT, RETIRE and BEGIN leave: the control record, the word that changes, whether marks are cleared, the answer.
--- The arena and the rows themselves are left to the caller; proofs/Acts joins these to the model's steps.
+-- The rows, and but for ADMIT the arena, are left to the caller; proofs/Acts joins these to the model's steps.
 use mathlib.Core.Bool.{Bool, true, false, not}
 use mathlib.Core.List.{List, [], _∷_}
 use Prim.Native.Nat.{ℕ}
@@ -7,7 +7,7 @@ use Rattle.model.specs.declared.Control.{Control}
 use Rattle.model.specs.declared.Change.the-variants.{Nothing, Put}
 use Rattle.model.specs.declared.Answer.the-variants.{Refused, Admitted, Begun, Done}
 use Rattle.model.specs.Arena.{cells, none, start, place, flagged, cellsAt, newRecord, laid, lowestRun}
-use Rattle.model.specs.State.{State, state, stageOf, inHand, withMove, withBegun, rise, entry, Outcome, outcome}
+use Rattle.model.specs.State.{stageOf, inHand, withMove, withBegun, rise, entry}
 use Rattle.model.specs.KeeperSteps.{taken, freed, withEntry, firstMove}
 use Rattle.model.specs.Refusals.{Refusal, _if_, refuse, badMeter, badKind, isNone, admitRefusals, beginRefusals}
 use Rattle.mover.specs.declared.Kept.{Kept}
@@ -56,7 +56,3 @@ unfoldable pub admitArena : Control → List ℕ → ℕ → ℕ → List ℕ
 admitArena c arena meter kind =
     refuse (admitRefusals c meter kind) (λ n. arena)
     (laid arena (start (lowestRun (c .map) (cells kind))) (newRecord (lowestRun (c .map) (cells kind)) meter kind))
-
--- ADMIT: the arena beside the rest
-abbrev pub placedWith : State → Kept → List ℕ → Outcome
-placedWith s o arena = outcome (o .answer) (state (o .control) arena (s .table))

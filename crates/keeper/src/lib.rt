@@ -3,6 +3,7 @@
 ghost use mathlib.Core.Path.{_≡_};
 ghost use lib.ListN.{length};
 ghost use Rattle.model.specs.State.{stageOf, inHand};
+ghost use Rattle.model.specs.KeeperSteps.{firstMove};
 ghost use Rattle.model.specs.Refusals.{given};
 ghost use Rattle.keeper.specs.Kept.{refusedKept, recordRefusals, newRefusals, retireStep, beginStep, admitStep, admitArena};
 use directory::entry_of;
@@ -13,9 +14,10 @@ use model::Control;
 use model::Move;
 use mover::Kept;
 
-// "absent (65535)"; also where a search finds nothing
+// "absent (65535)"
 const NONE: u16 = 65535;
 
+// where a search finds nothing
 const NOWHERE: u32 = 65535;
 
 // the end of a count of 32 bits
@@ -84,6 +86,19 @@ pub fn retire(control: Control, arena: &[u32], held: bool, meter: u32) -> Kept
     }
 }
 
+// "the stage is first barrier"; "words copied is 0 at the first barrier"
+fn first_move(meter: u32, from: u16, target: u16) -> Move
+    ensures { λ r. ⌜ r ≡ firstMove meter from target ⌝ }
+{
+    Move {
+        stage: 1,
+        meter,
+        from,
+        target,
+        copied: 0,
+    }
+}
+
 // 3 "BEGIN a = meter. The target is the lowest free run of the record's length. Its cells become used, the flag is set, begun rises
 // by one, passed marks are cleared, the stage is first barrier."
 pub fn begin(control: Control, arena: &[u32], meter: u32) -> Kept
@@ -95,7 +110,7 @@ pub fn begin(control: Control, arena: &[u32], meter: u32) -> Kept
         return refused(control, n);
     }
     let from = entry_of(&control.dir, meter);
-    let cell = mover::wide(from);
+    let cell = from as u32;
     let lengths = record::lengths_at(arena, cell);
     let old = control.map;
     let target = cells::lowest_run(old, lengths.cells);
@@ -106,13 +121,7 @@ pub fn begin(control: Control, arena: &[u32], meter: u32) -> Kept
         return refused(control, 15);
     }
     let map = cells::take_run(old, target, lengths.cells);
-    let first = Move {
-        stage: 1,
-        meter,
-        from,
-        target: target as u16,
-        copied: 0,
-    };
+    let first = first_move(meter, from, target as u16);
     let mut next = control;
     next.map = map;
     next.mv = first;

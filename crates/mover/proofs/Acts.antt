@@ -1,13 +1,19 @@
 -- What ADVANCE leaves, put back into the state, is what the model's step does: answer, control record, arena, marks.
 -- Assumes nothing.
 use mathlib.Core.Path.{_≡_, refl, sym, ap, _∙_}
-use mathlib.Core.Bool.{not}
+use mathlib.Core.Bool.{Bool, true, false, not}
+use mathlib.Core.List.{List}
+use Prim.Native.Nat.{ℕ}
 use lib.Dec.{eqb}
+use Rattle.model.specs.declared.Row.{Row}
+use Rattle.model.specs.declared.Control.{Control}
 use Rattle.model.specs.declared.Answer.the-variants.{BarrierOpen}
 use Rattle.model.specs.Choice.{pick}
 use Rattle.model.specs.Arena.{header, flagged, wordsAt}
-use Rattle.model.specs.Rows.{allPassed}
+use Rattle.model.specs.Rows.{clearMarks, allPassed}
 use Rattle.model.specs.State.{Stage, idle, firstBarrier, copying, secondBarrier, thirdBarrier, stageOf, inHand, rise, State}
+use Rattle.model.specs.State.{state, Outcome, outcome}
+use Rattle.model.specs.ClientSteps.{changed}
 use Rattle.model.specs.KeeperSteps.{moveOf, barrier, startCopying, copyWord, settle, advance}
 use Rattle.model.specs.Refusals.{refuse}
 use Rattle.model.specs.Steps.{Step, Name, ADVANCE, nameOf, refusals, effect, refused, act}
@@ -15,7 +21,19 @@ use Rattle.model.proofs.Choice.{pick-map}
 use Rattle.mover.specs.declared.Moved.{Moved}
 use Rattle.mover.specs.declared.Kept.{Kept}
 use Rattle.mover.specs.Kept.{stays, openFirst, copyMove, commitKept, callOffKept, settleKept, giveBackKept, onMove}
-use Rattle.mover.specs.Kept.{advanceKept, placed}
+use Rattle.mover.specs.Kept.{closing, closeKept, advanceMove}
+
+-- ADVANCE as a whole
+abbrev pub advanceKept : Control → List ℕ → Bool → Stage → Kept
+advanceKept c arena passed x = pick (closing passed x) (closeKept c arena x) (onMove c (advanceMove arena (c .mv) passed x))
+
+-- what a step leaves, put back into the state: the word that changes, and the marks where they are cleared
+abbrev pub marked : Bool → List Row → List Row
+marked true table = clearMarks table
+marked false table = table
+
+abbrev pub placed : State → Kept → Outcome
+placed s o = outcome (o .answer) (state (o .control) (changed (s .arena) (o .change)) (marked (o .clear) (s .table)))
 
 -- a step by its name
 pub act-named : (s : State) (t : Step) (x : Name) → nameOf t ≡ x → act s t ≡ refuse (refusals x s t) (refused s) (effect x s t)

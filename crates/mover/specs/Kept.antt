@@ -4,7 +4,6 @@ use mathlib.Core.Bool.{Bool, true, false}
 use mathlib.Core.List.{List}
 use Prim.Native.Nat.{ℕ}
 use lib.Dec.{eqb}
-use Rattle.model.specs.declared.Row.{Row}
 use Rattle.model.specs.declared.Move.{Move}
 use Rattle.model.specs.declared.Control.{Control}
 use Rattle.model.specs.declared.Change.{Change}
@@ -13,10 +12,8 @@ use Rattle.model.specs.declared.Answer.{Answer}
 use Rattle.model.specs.declared.Answer.the-variants.{Refused, BarrierOpen, CopyingStarts, Copied, Committed, CalledOff, GivenBack}
 use Rattle.model.specs.Choice.{pick}
 use Rattle.model.specs.Arena.{place, header, plain, flagged, cellsAt, wordsAt}
-use Rattle.model.specs.Rows.{clearMarks}
-use Rattle.model.specs.State.{State, state, Stage, idle, firstBarrier, copying, secondBarrier, thirdBarrier, stageNumber, noMove, withStage}
-use Rattle.model.specs.State.{withMove, withCommitted, withAborted, rise, Outcome, outcome}
-use Rattle.model.specs.ClientSteps.{changed}
+use Rattle.model.specs.State.{Stage, idle, firstBarrier, copying, secondBarrier, thirdBarrier, stageNumber, noMove, withStage}
+use Rattle.model.specs.State.{withMove, withCommitted, withAborted, rise}
 use Rattle.model.specs.KeeperSteps.{freed, withEntry, replicaWord}
 use Rattle.mover.specs.declared.Moved.{Moved}
 use Rattle.mover.specs.declared.Kept.{Kept}
@@ -79,7 +76,7 @@ settleKept c arena = pick (eqb (header arena (c .mv .from)) (flagged (c .mv .fro
 abbrev pub giveBackKept : Control → List ℕ → Kept
 giveBackKept c arena = kept (endMove c arena (c .mv .from)) Nothing false GivenBack
 
--- ADVANCE as a whole: the second and third barrier want the whole record, once all have passed; else the move alone is enough
+-- the second and third barrier want the whole record, once all have passed; else the move alone is enough
 abbrev pub closing : Bool → Stage → Bool
 closing passed idle = false
 closing passed firstBarrier = false
@@ -94,16 +91,6 @@ closeKept c arena copying = kept c Nothing false BarrierOpen
 closeKept c arena secondBarrier = settleKept c arena
 closeKept c arena thirdBarrier = giveBackKept c arena
 
+-- what the move alone leaves, in the control record
 abbrev pub onMove : Control → Moved → Kept
 onMove c o = kept (withMove c (o .mv)) (o .change) (o .clear) (o .answer)
-
-abbrev pub advanceKept : Control → List ℕ → Bool → Stage → Kept
-advanceKept c arena passed x = pick (closing passed x) (closeKept c arena x) (onMove c (advanceMove arena (c .mv) passed x))
-
--- what a step leaves, put back into the state: the word that changes, and the marks where they are cleared
-abbrev pub marked : Bool → List Row → List Row
-marked true table = clearMarks table
-marked false table = table
-
-abbrev pub placed : State → Kept → Outcome
-placed s o = outcome (o .answer) (state (o .control) (changed (s .arena) (o .change)) (marked (o .clear) (s .table)))

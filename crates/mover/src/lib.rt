@@ -4,8 +4,8 @@ ghost use mathlib.Core.Path.{_≡_};
 ghost use Rattle.model.specs.Arena.{putRun, plain, flagged, cellsAt};
 ghost use Rattle.model.specs.State.{stageOf, rise};
 ghost use Rattle.model.specs.KeeperSteps.{replicaWord};
-ghost use Rattle.mover.specs.Kept.{stays, openFirst, oneCopied, copyMove, advanceMove, commitKept, callOffKept, settleKept};
-ghost use Rattle.mover.specs.Kept.{giveBackKept, closing, closeKept};
+ghost use Rattle.mover.specs.Kept.{stays, openFirst, oneCopied, copyMove, advanceMove, commitKept, endMove, callOffKept};
+ghost use Rattle.mover.specs.Kept.{settleKept, giveBackKept, closing, closeKept};
 use directory::set_entry;
 use model::Answer;
 use model::Change;
@@ -36,23 +36,17 @@ const NO_MOVE: Move = Move {
     copied: 0,
 };
 
-pub fn wide(x: u16) -> u32
-    ensures { λ r. ⌜ r ≡ x ⌝ }
-{
-    x as u32
-}
-
 // "2 × target cell + flag"
 fn plain_header(cell: u16) -> u32
     ensures { λ r. ⌜ r ≡ plain cell ⌝ }
 {
-    record::pack(wide(cell), false)
+    record::pack(cell as u32, false)
 }
 
 pub fn flagged_header(cell: u16) -> u32
     ensures { λ r. ⌜ r ≡ flagged cell ⌝ }
 {
-    record::pack(wide(cell), true)
+    record::pack(cell as u32, true)
 }
 
 // A count "rises by one".
@@ -92,7 +86,7 @@ fn replica_word(arena: &[u32], mv: Move) -> u32
     if mv.copied == 0 {
         plain_header(mv.target)
     } else {
-        record::load(arena, record::place(wide(mv.from), mv.copied))
+        record::load(arena, record::place(mv.from as u32, mv.copied))
     }
 }
 
@@ -116,9 +110,9 @@ fn one_copied(mv: Move, stage: u32, change: Change, clear: bool) -> Moved
 fn copy_word(arena: &[u32], mv: Move) -> Moved
     ensures { λ r. ⌜ r ≡ copyMove (now (arena .entry)) mv ⌝ }
 {
-    let lengths = record::lengths_at(arena, wide(mv.from));
+    let lengths = record::lengths_at(arena, mv.from as u32);
     let change = Change::Put {
-        at: record::place(wide(mv.target), mv.copied),
+        at: record::place(mv.target as u32, mv.copied),
         word: replica_word(arena, mv),
     };
     if one_more(mv.copied) == lengths.words {
@@ -146,8 +140,8 @@ fn commit(control: Control) -> Kept
     ensures { λ r. ⌜ r ≡ commitKept control ⌝ }
 {
     let mut mv = control.mv;
-    let from = wide(mv.from);
-    let target = wide(mv.target);
+    let from = mv.from as u32;
+    let target = mv.target as u32;
     mv.stage = 4;
     let mut next = control;
     set_entry(&mut next.dir, mv.meter, mv.target);
@@ -168,8 +162,22 @@ fn commit(control: Control) -> Kept
 pub fn free_block(map: [u64; 16], arena: &[u32], from: u16, cell: u16) -> [u64; 16]
     ensures { λ r. ⌜ r ≡ putRun map cell (cellsAt (now (arena .entry)) from) 0 ⌝ }
 {
-    let lengths = record::lengths_at(arena, wide(from));
-    cells::free_run(map, wide(cell), lengths.cells)
+    let lengths = record::lengths_at(arena, from as u32);
+    cells::free_run(map, cell as u32, lengths.cells)
+}
+
+// The block at a cell is freed, as long as the moved record; "no move in hand".
+fn end_move(control: Control, arena: &[u32], cell: u16) -> Control
+    ensures { λ r. ⌜ r ≡ endMove control (now (arena .entry)) cell ⌝ }
+{
+    let mv = control.mv;
+    let old = control.map;
+    let map = free_block(old, arena, mv.from, cell);
+    let none = NO_MOVE;
+    let mut next = control;
+    next.map = map;
+    next.mv = none;
+    next
 }
 
 // "Not equal: the replica's cells are freed, aborted rises, no move in hand"
@@ -177,12 +185,7 @@ fn call_off(control: Control, arena: &[u32]) -> Kept
     ensures { λ r. ⌜ r ≡ callOffKept control (now (arena .entry)) ⌝ }
 {
     let mv = control.mv;
-    let old = control.map;
-    let map = free_block(old, arena, mv.from, mv.target);
-    let none = NO_MOVE;
-    let mut next = control;
-    next.map = map;
-    next.mv = none;
+    let mut next = end_move(control, arena, mv.target);
     next.aborted = one_more(control.aborted);
     Kept {
         control: next,
@@ -197,7 +200,7 @@ fn settle(control: Control, arena: &[u32]) -> Kept
     ensures { λ r. ⌜ r ≡ settleKept control (now (arena .entry)) ⌝ }
 {
     let mv = control.mv;
-    let header = record::header_at(arena, wide(mv.from));
+    let header = record::header_at(arena, mv.from as u32);
     if header == flagged_header(mv.from) {
         commit(control)
     } else {
@@ -210,12 +213,7 @@ fn give_back(control: Control, arena: &[u32]) -> Kept
     ensures { λ r. ⌜ r ≡ giveBackKept control (now (arena .entry)) ⌝ }
 {
     let mv = control.mv;
-    let old = control.map;
-    let map = free_block(old, arena, mv.from, mv.from);
-    let none = NO_MOVE;
-    let mut next = control;
-    next.map = map;
-    next.mv = none;
+    let next = end_move(control, arena, mv.from);
     Kept {
         control: next,
         change: Change::Nothing,

@@ -161,7 +161,7 @@ pub fn lengths_at(arena: &[u32], cell: u32) -> model::Lengths
     lengths_of(l.kind)
 }
 
-// The word that a client's step changed.
+// The word that a step changed.
 pub fn apply(arena: &mut [u32], change: model::Change)
     ensures { λ r. ⌜ now (arena .exit) ≡ changed (now (arena .entry)) change ⌝ }
 {

@@ -13,12 +13,12 @@ use Rattle.model.specs.Rules.{isEarly, isLate, replicaRight, earlyRight, lateRi
 use Rattle.model.proofs.Choice.{and-yes}
 use Rattle.model.proofs.StageNumbers.{early-not-late}
 
-module _ (dir : List ℕ) (v : Move) (arena : List ℕ) where
-  pub replica-last : 1 < v .copied → eqb (header arena (v .target)) (plain (v .target)) ≡ true
-      → eqb (label arena (v .target)) (label arena (v .from)) ≡ replicaRight v arena
-  unfolding replicaRight
-  replica-last h e = simp (lt-ltb 0 (v .copied) (omega arith), lt-ltb 1 (v .copied) h, e)
+pub replica-last : (v : Move) (arena : List ℕ) → 1 < v .copied → eqb (header arena (v .target)) (plain (v .target)) ≡ true
+    → eqb (label arena (v .target)) (label arena (v .from)) ≡ replicaRight v arena
+unfolding replicaRight
+replica-last v arena h e = simp (lt-ltb 0 (v .copied) (omega arith), lt-ltb 1 (v .copied) h, e)
 
+module _ (dir : List ℕ) (v : Move) (arena : List ℕ) where
   -- the block of the move: its entry names a cell, and it is the one that the stage asks for
   module _ (p : entry dir (v .meter) ≡ none → ⊥) where
     pub early-fits : entry dir (v .meter) ≡ v .from → leb (v .target + cellsAt arena (v .from)) 1024 ≡ false

@@ -4,8 +4,8 @@ ghost use mathlib.Core.Path.{_≡_};
 ghost use Prim.Native.Nat.{_+_};
 ghost use lib.Dec.{leb};
 ghost use lib.ListN.{length};
-ghost use Rattle.model.specs.Rules.{recordRight, replicaRight, earlyRight, lateRight, headerRight, R1, R2, R4, R5, R7};
-ghost use Rattle.record_rules.specs.Tests.{noNumbers};
+ghost use Rattle.model.specs.State.{idle};
+ghost use Rattle.model.specs.Rules.{recordRight, replicaRight, earlyRight, lateRight, headerRight, numbersRight, R1, R2, R4, R5, R7};
 use blocks::is_early;
 use blocks::is_late;
 use directory::entry_of;
@@ -43,6 +43,7 @@ fn record_right(dir: &[u16; 256], arena: &[u32], m: u32) -> bool
     fits(c, n.cells)
 }
 
+// R1, every meter.
 pub fn records_right(dir: &[u16; 256], arena: &[u32]) -> bool
     requires { ⌜ length (now dir) ≡ 256 ⌝ }
     ensures { λ r. ⌜ r ≡ R1 (now (dir .entry)) (now (arena .entry)) ⌝ }
@@ -155,7 +156,7 @@ fn header_right(dir: &[u16; 256], mv: Move, arena: &[u32], m: u32) -> bool
     is_flagged(h, c)
 }
 
-// "In the third barrier the old header is 2 × new."
+// R4, every meter; then "In the third barrier the old header is 2 × new."
 pub fn headers_right(dir: &[u16; 256], mv: Move, arena: &[u32]) -> bool
     requires { ⌜ length (now dir) ≡ 256 ⌝ }
     ensures { λ r. ⌜ r ≡ R4 (now (dir .entry)) mv (now (arena .entry)) ⌝ }
@@ -175,7 +176,7 @@ pub fn headers_right(dir: &[u16; 256], mv: Move, arena: &[u32]) -> bool
 
 // "all 0 when there is none"
 fn no_numbers(mv: Move) -> bool
-    ensures { λ r. ⌜ r ≡ noNumbers mv ⌝ }
+    ensures { λ r. ⌜ r ≡ numbersRight idle mv 0 ⌝ }
 {
     if mv.meter != 0 {
         return false;

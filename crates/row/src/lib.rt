@@ -13,14 +13,14 @@ use model::Row;
 // "each empty (65535) or a cell"
 const NONE: u32 = 65535;
 
-// One of two numbers by a test, without a branch.
+// One of two numbers by a test.
 pub fn choose(test: bool, x: u32, y: u32) -> u32
     ensures { λ r. ⌜ r ≡ pick test x y ⌝ }
 {
     if test { x } else { y }
 }
 
-// Four selects and no branch; a hold above 3 is empty.
+// A hold above 3 is empty.
 pub fn hold_of(holds: [u32; 4], hold: u32) -> u32
     ensures { λ r. ⌜ r ≡ getD holds hold none ⌝ }
 {

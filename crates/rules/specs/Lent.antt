@@ -5,6 +5,6 @@ use Rattle.model.specs.declared.Move.{Move}
 use Rattle.model.specs.State.{State, state}
 use Rattle.table.specs.Words.{rowsOf}
 
-abbrev pub lent : List ℕ → List ℕ → Move → ℕ → ℕ → ℕ → List ℕ → List ℕ → State
-lent dir map v begun committed aborted arena table =
+abbrev pub ofParts : List ℕ → List ℕ → Move → ℕ → ℕ → ℕ → List ℕ → List ℕ → State
+ofParts dir map v begun committed aborted arena table =
     state (record { dir = dir; map = map; mv = v; begun = begun; committed = committed; aborted = aborted }) arena (rowsOf table)

@@ -6,7 +6,7 @@ ghost use Rattle.model.specs.State.{state};
 ghost use Rattle.model.specs.Rules.{firstBroken};
 ghost use Rattle.model.specs.Arena.{IsMap};
 ghost use Rattle.table.specs.Words.{rowsOf};
-ghost use Rattle.rules.specs.Lent.{lent};
+ghost use Rattle.rules.specs.Lent.{ofParts};
 use model::Control;
 use model::Move;
 use record_rules::counts_right;
@@ -31,7 +31,7 @@ fn broken<'a>(
     requires { ⌜ (length (now dir) ≡ 256) × IsMap (now map) ⌝ }
     ensures { λ r.
         ⌜ r ≡ firstBroken
-        (lent (now (dir .entry)) (now (map .entry)) mv begun committed aborted (now (arena .entry)) (now (table .entry))) ⌝ }
+        (ofParts (now (dir .entry)) (now (map .entry)) mv begun committed aborted (now (arena .entry)) (now (table .entry))) ⌝ }
 {
     if !records_right(dir, arena) {
         return 1;

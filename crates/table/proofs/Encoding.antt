@@ -6,7 +6,7 @@ use Prim.Native.Nat.{ℕ, zero, suc, _≤_, _<_}
 use native.Mathlib.Omega.{arith}
 use lib.Dec.{eqb, leb}
 use lib.ListN.{length}
-use borrow.Author.Tests.{lt-ltb, le-ltb, leb-true, eqb-true, ne-eqb}
+use borrow.Author.Tests.{lt-ltb, le-ltb, leb-true, le-leb, eqb-true, ne-eqb}
 use Rattle.model.specs.declared.Access.the-variants.{Read, Write}
 use Rattle.model.specs.declared.Phase.{Phase}
 use Rattle.model.specs.declared.Phase.the-variants.{Resting, Ready, Waiting}
@@ -14,6 +14,7 @@ use Rattle.model.specs.declared.Row.{Row}
 use Rattle.model.specs.Choice.{one, _and_}
 use Rattle.model.specs.Rows.{withHolds}
 use Rattle.model.proofs.Choice.{clash, and-parts}
+use Rattle.model.proofs.Says.{one-le}
 use Rattle.model.proofs.Holds.{four-holds}
 use Rattle.table.specs.Words.{phaseWords, listed, rowWords, phaseOf, rowIn, isPhase, isRow}
 use Rattle.table.proofs.Twelve.{twelve}
@@ -26,10 +27,6 @@ one-forth : (x : ℕ) → leb x 1 ≡ true → one (not (eqb x 0)) ≡ x
 one-forth zero e = refl
 one-forth (suc zero) e = refl
 one-forth (suc (suc x)) e = let h : suc (suc x) ≤ 1 = leb-true (suc (suc x)) 1 e in absurd (omega arith)
-
-one-small : (b : Bool) → leb (one b) 1 ≡ true
-one-small true = refl
-one-small false = refl
 
 phase-back : (p : Phase)
     → phaseOf (phaseWords p .tag) (phaseWords p .cell) (phaseWords p .hold) (phaseWords p .word) (phaseWords p .value) ≡ p
@@ -77,7 +74,7 @@ pub is-row-first : (x : Row) (t : List ℕ) → isRow (rowWords x ++ t) 0 ≡ tr
 unfolding isRow
 is-row-first x t =
     let h : 11 < length (rowWords x ++ t) = omega arith in
-    rw (lt-ltb _ _ h, one-small (x .attached), one-small (x .passed)) (phase-means (x .phase))
+    rw (lt-ltb _ _ h, le-leb _ _ (one-le (x .attached)), le-leb _ _ (one-le (x .passed))) (phase-means (x .phase))
 
 -- words that mean a row are the words of that row
 pub words-first : (w : ℕ → ℕ) (t : List ℕ) → isRow (twelve w ++ t) 0 ≡ true → rowWords (rowIn (twelve w ++ t) 0) ≡ twelve w

@@ -7,14 +7,14 @@ use Prim.Native.Nat.{ℕ, zero, suc, _*_, _<_}
 use native.Mathlib.Omega.{arith}
 use lib.ListN.{length, getD}
 use Rattle.model.specs.declared.Row.{Row}
-use Rattle.model.specs.Rows.{freshRow}
+use Rattle.model.specs.Rows.{FourHolds, freshRow}
 use Rattle.table.specs.Words.{rowWords, tableWords, isRow, rowAt, rowRead, listFrom}
 use Rattle.table.proofs.Twelve.{twelve, wordOf, next-row, InRows, none, more, row-in-past, is-row-past}
 use Rattle.table.proofs.Encoding.{row-first, is-row-first, words-first}
-use Rattle.table.proofs.FourHolds.{Four, FourHolds, four-tail}
+use Rattle.table.proofs.FourHolds.{RowsOfFour, four-tail}
 
 pub record Reader (f : List ℕ → ℕ → Row) : Type 0 where
-  pub first : (x : Row) (t : List ℕ) → Four x → f (rowWords x ++ t) 0 ≡ x
+  pub first : (x : Row) (t : List ℕ) → FourHolds x → f (rowWords x ++ t) 0 ≡ x
   pub later : (w : ℕ → ℕ) (t : List ℕ) (i : ℕ) → f (twelve w ++ t) (suc i) ≡ f t i
 
 -- the steps' reader, and the audit's
@@ -25,14 +25,14 @@ at-later : (w : ℕ → ℕ) (t : List ℕ) (i : ℕ) → rowAt (twelve w ++ t) 
 unfolding rowAt
 at-later w t i = rw (next-row i, is-row-past w t (12 * i), row-in-past w t (12 * i))
 
-at-first : (x : Row) (t : List ℕ) → Four x → rowAt (rowWords x ++ t) 0 ≡ x
+at-first : (x : Row) (t : List ℕ) → FourHolds x → rowAt (rowWords x ++ t) 0 ≡ x
 unfolding rowAt
 at-first x t e = rw (is-row-first x t) (row-first x t e)
 
 pub reads-checked : Reader rowAt
 reads-checked = record { first = at-first; later = at-later }
 
-pub read-row : {f : List ℕ → ℕ → Row} → Reader f → (table : List Row) → FourHolds table → (i : ℕ) → i < length table
+pub read-row : {f : List ℕ → ℕ → Row} → Reader f → (table : List Row) → RowsOfFour table → (i : ℕ) → i < length table
     → f (tableWords table) i ≡ getD table i freshRow
 unfolding tableWords
 read-row m [] h i p = absurd (omega arith)
@@ -44,7 +44,7 @@ unfolding listFrom
 list-later f g h i zero = refl
 list-later f g h i (suc n) = rw (h i) (ap (λ l. g i ∷ l) (list-later f g h (suc i) n))
 
-pub read-rows : {f : List ℕ → ℕ → Row} → Reader f → (table : List Row) → FourHolds table
+pub read-rows : {f : List ℕ → ℕ → Row} → Reader f → (table : List Row) → RowsOfFour table
     → listFrom (f (tableWords table)) 0 (length table) ≡ table
 unfolding tableWords listFrom
 read-rows m [] h = refl

@@ -18,7 +18,7 @@ use Rattle.model.proofs.Choice.{clash, and-parts}
 use Rattle.table.specs.Words.{tableWords, noRow, rowIn, isRow, rowAt, listFrom, rowsOf, rowsRead}
 use Rattle.table.specs.Words.{putRow, putPhase, putSwaps, eachRow, clearMark, freshen}
 use Rattle.table.proofs.Twelve.{in-rows}
-use Rattle.table.proofs.FourHolds.{FourHolds}
+use Rattle.table.proofs.FourHolds.{RowsOfFour}
 use Rattle.table.proofs.Reading.{reads, reads-checked, read-row, read-rows, words-of}
 use Rattle.table.proofs.Changing.{change-row, change-rows, and-then, puts-row, puts-phase, puts-swaps, clears, freshened}
 
@@ -45,13 +45,14 @@ no-rows t n = rw (ne-eqb (length t) 96 n)
 
 -- Reading
 
-pub row-read : (table : List Row) → FourHolds table → (i : ℕ) → i < length table → rowIn (tableWords table) (12 * i) ≡ getD table i freshRow
+pub row-read : (table : List Row) → RowsOfFour table → (i : ℕ) → i < length table
+    → rowIn (tableWords table) (12 * i) ≡ getD table i freshRow
 row-read = read-row reads
 
-pub rows-read : (table : List Row) → length table ≡ 8 → FourHolds table → rowsRead (tableWords table) ≡ table
+pub rows-read : (table : List Row) → length table ≡ 8 → RowsOfFour table → rowsRead (tableWords table) ≡ table
 rows-read table e h = rw e at (read-rows reads table h)
 
-pub rows-of-words : (table : List Row) → length table ≡ 8 → FourHolds table → rowsOf (tableWords table) ≡ table
+pub rows-of-words : (table : List Row) → length table ≡ 8 → RowsOfFour table → rowsOf (tableWords table) ≡ table
 unfolding rowsOf
 rows-of-words table e h =
     let n : length (tableWords table) ≡ 96 = omega (arith, length-words table) in

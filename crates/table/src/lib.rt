@@ -74,7 +74,7 @@ pub fn row_at(t: &[u32], i: u32) -> Row
     }
 }
 
-// Resting: "unused words are 0".
+// Resting: unused words are 0.
 fn no_access(cell: u32, hold: u32, word: u32, value: u32) -> bool
     ensures { λ r. ⌜ r ≡ noAccess cell hold word value ⌝ }
 {

@@ -1,6 +1,6 @@
 -- The loop over the steps: one turn more, or none where no step is left. Assumes nothing.
 use mathlib.Core.Path.{_≡_, refl, _∙_}
-use mathlib.Core.Bool.{Bool, true, false}
+use mathlib.Core.Bool.{true, false}
 use mathlib.Core.List.{List}
 use Prim.Native.Nat.{ℕ, zero, suc, _+_, _-_, _*_, _≤_, _<_}
 use native.Mathlib.Numerals.{add-one}
@@ -12,7 +12,7 @@ use Rattle.model.specs.declared.Answer.{Answer}
 use Rattle.model.specs.declared.Control.{Control}
 use Rattle.model.specs.Choice.{_and_}
 use Rattle.model.specs.Steps.{Step, stepAt}
-use Rattle.model.proofs.Choice.{and-parts}
+use Rattle.model.proofs.Choice.{and-parts, and-no}
 use Rattle.answers.specs.Answers.{toldAs}
 use Rattle.acts.specs.Acts.{Lent, lent, Turn, turnOn}
 use Rattle.turns.specs.Runs.{Going, going, putTold, hasStep, after, turnsFrom}
@@ -24,11 +24,7 @@ step-there words slots i p q r = rw (lt-ltb i 4096 p, lt-ltb (5 * i + 4) words q
 
 no-step : (words slots i : ℕ) → words ≤ 5 * i + 4 → hasStep words slots i ≡ false
 unfolding hasStep
-no-step words slots i h = rw (le-ltb (5 * i + 4) words h) (neither (ltb i 4096))
-  where
-    neither : (b : Bool) → (b and false) ≡ false
-    neither true = refl
-    neither false = refl
+no-step words slots i h = rw (le-ltb (5 * i + 4) words h) (and-no (ltb i 4096))
 
 pub step-below : (words slots i : ℕ) → hasStep words slots i ≡ true → i < 4096
 unfolding hasStep

@@ -1,15 +1,14 @@
 -- Turns on the words of rows are the model's steps one by one, with the answers laid in their slots. Assumes nothing.
 use mathlib.Core.Path.{_≡_, refl, sym, ap, _∙_}
-use mathlib.Core.List.{List, _∷_}
+use mathlib.Core.List.{List, [], _∷_}
 use Prim.Native.Nat.{ℕ, zero, suc, _+_, _*_, _≤_}
-use native.Mathlib.Numerals.{add-one}
 use native.Mathlib.Omega.{arith}
 use lib.ListN.{length, set, length-set}
 use Rattle.model.specs.declared.Answer.{Answer}
 use Rattle.model.specs.Arena.{laid}
 use Rattle.model.specs.State.{State, Outcome, number, value}
 use Rattle.model.specs.Steps.{Step, act, Ran, then, oneByOne, stepAt, stepsFrom}
-use Rattle.model.proofs.Records.{laid-none, laid-first}
+use Rattle.model.proofs.Records.{laid-none, stored-first, laid-append}
 use Rattle.answers.specs.declared.Told.{Told}
 use Rattle.answers.specs.Answers.{toldAs}
 use Rattle.acts.proofs.Acts.{lentOf, Rows, Acts, acts}
@@ -20,9 +19,8 @@ use Rattle.turns.proofs.Loop.{step-there, turns-next, turns-end}
 slot-laid : (slots : List ℕ) (i x y : ℕ) (rest : List ℕ)
     → laid (set (set slots (2 * i) x) (2 * i + 1) y) (2 * suc i) rest ≡ laid slots (2 * i) (x ∷ y ∷ rest)
 slot-laid slots i x y rest =
-    let e : 2 * suc i ≡ suc (suc (2 * i)) = omega arith in
-    rw (e, add-one (2 * i))
-    (sym (laid-first slots (2 * i) x (y ∷ rest) ∙ laid-first (set slots (2 * i) x) (suc (2 * i)) y rest))
+    let e : 2 * suc i ≡ 2 * i + 2 = omega arith in
+    rw (e, stored-first slots (2 * i) x (y ∷ [])) (laid-append slots (2 * i) (x ∷ y ∷ []) rest)
 
 slot-length : (slots : List ℕ) (i : ℕ) (x : Told) → length (putTold slots i x) ≡ length slots
 unfolding putTold

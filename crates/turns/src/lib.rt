@@ -94,7 +94,7 @@ pub fn turns(
                 s.b,
                 s.v,
             ),
-            _ => answer = Answer::Refused(3),
+            9..=4294967295 => answer = Answer::Refused(3),
         }
         put_answer(slots, i, answer);
         i += 1;

@@ -9,8 +9,7 @@ use lib.ListN.{length, getD, set, take, length-append}
 use lib.Seq.{take-suc, length-take-le}
 use lib.Pow.{mod-mod-pow, field, shr-shr}
 use Rattle.model.specs.Arena.{laid}
-use Rattle.model.proofs.Records.{laid-last}
-use Rattle.wire.proofs.Laid.{laid-append}
+use Rattle.model.proofs.Records.{laid-last, laid-append}
 use Rattle.wire.specs.Bytes.{number, bytes, numbers, allBytes}
 
 -- j bytes and the k bytes behind them

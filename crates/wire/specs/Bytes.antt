@@ -1,4 +1,4 @@
--- "All numbers lowest byte first": a number in k bytes, and a list of such numbers.
+-- All numbers lowest byte first: a number in k bytes, and a list of such numbers.
 use mathlib.Core.List.{List, [], _∷_, _++_}
 use Prim.Native.Nat.{ℕ, zero, suc, _+_, _*_, _/_, _%_}
 use lib.ListN.{getD}

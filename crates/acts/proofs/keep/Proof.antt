@@ -77,8 +77,11 @@ returns-4 c =
     rw (b .before .before .match .keys4) (rw (b .close .ensures) at (c .before .before .before .before .put-kept3 .ensures))
 
 returns-5 : tie.Need-returns-5
-returns-5 c = let n = c .match .rest in
-    rw (unknown-keeper (c .before .before .before .args .code) (n .0 .0 .0 .1) (n .0 .0 .1) (n .0 .1) (n .1))
+returns-5 c = rw (c .match .keys5) (record { arena = refl; table = refl; result = refl })
+
+returns-6 : tie.Need-returns-6
+returns-6 c = let n = c .match .rest in
+    rw (unknown-keeper (c .before .before .before .args .code) (n .0 .0 .0 .0 .1) (n .0 .0 .0 .1) (n .0 .0 .1) (n .0 .1))
     (record { arena = refl; table = refl; result = refl })
 
 pub keep-spec : {M : Type 1} → statement M
@@ -106,4 +109,5 @@ keep-spec =
     same-length-6
     same-length-7
     returns-4
-    returns-5)
+    returns-5
+    returns-6)

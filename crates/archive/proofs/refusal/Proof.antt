@@ -6,7 +6,7 @@ use mathlib.Core.Path.{sym, _∙_}
 use Rattle.model.proofs.Choice.{said-yes, said-no}
 use Rattle.model.specs.Rules.{firstBroken}
 use Rattle.archive.specs.Does.{meant}
-use Rattle.archive.proofs.Tests.{size-refused, unsound-refused, sound-passes}
+use Rattle.archive.proofs.Tests.{size-refused, unsound-refused, none-refused}
 use Rattle.archive.proofs.refusal.Statement.{statement}
 use Rattle.archive.proofs.refusal.Tie as tie
 
@@ -32,7 +32,7 @@ returns-3 : tie.Need-returns-3
 returns-3 c = let b = c .before .before in
     let s = b .before .before .before .before .args in
     sym
-    (sound-passes (s .control) (now (s .arena)) (now (s .table)) (said-yes (b .before .right-sizes .ensures) (b .if1 .left))
+    (none-refused (s .control) (now (s .arena)) (now (s .table)) (said-yes (b .before .right-sizes .ensures) (b .if1 .left))
     (sym (c .before .first-broken .ensures) ∙ c .if2 .left))
 
 pub refusal-spec : {M : Type 1} → statement M

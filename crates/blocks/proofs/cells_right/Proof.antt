@@ -1,4 +1,5 @@
 -- `blocks::cells_right` meets its contract. The invariant: the map built has at each cell the sum of the blocks of the entries passed.
+-- Assumes nothing.
 use Prim.Native.Nat.{_≤_, _-_}
 use mathlib.Core.Path.{sym}
 use native.Mathlib.Omega.{arith}
@@ -25,7 +26,7 @@ cast-lay-record : tie.Need-cast-lay-record Inv-loop μ-loop
 cast-lay-record c = search needs
 
 lay-record-requires : tie.Need-lay-record-requires Inv-loop μ-loop
-lay-record-requires c κs = c .before .before .before .loop .inv .0 .map .sixteen
+lay-record-requires c κs = c .before .before .before .loop .inv .0 .map
 
 returns : tie.Need-returns Inv-loop μ-loop
 returns c =
@@ -57,7 +58,7 @@ lay-block-requires : tie.Need-lay-block-requires Inv-loop μ-loop
 lay-block-requires c κs =
     let b = c .before .before .before in
     let args = b .before .before .args in
-    (end-small (args .mv) (now (args .arena)) (c .before .other-block .ensures), b .loop .inv .0 .map .sixteen)
+    (end-small (args .mv) (now (args .arena)) (c .before .other-block .ensures), b .loop .inv .0 .map)
 
 returns-2 : tie.Need-returns-2 Inv-loop μ-loop
 returns-2 c =

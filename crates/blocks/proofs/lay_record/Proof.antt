@@ -6,8 +6,8 @@ use denote.Ref.{now}
 use borrow.Author.Needs.{needs}
 use Rattle.blocks.proofs.Lay.{far-block}
 use Rattle.blocks.proofs.Seen.{cells-small, cells-read}
-use Rattle.blocks.specs.Lay.{lay, free}
-use Rattle.model.specs.Arena.{cellsAt}
+use Rattle.blocks.specs.Lay.{free}
+use Rattle.model.specs.Arena.{cellsAt, putRun}
 use Rattle.blocks.proofs.lay_record.Statement.{statement}
 use Rattle.blocks.proofs.lay_record.Tie as tie
 
@@ -15,7 +15,7 @@ returns : tie.Need-returns
 returns c =
     let args = c .before .before .args in
     let f = far-block (now (args .seen)) (args .c) (cellsAt (now (args .arena)) (args .c)) (c .before .before .pre)
-    (omega arith) in (sym (f .1), sym (f .0))
+    (cells-small (now (args .arena)) (args .c)) (omega arith) in (sym (f .1), sym (f .0))
 
 lengths-at-requires : tie.Need-lengths-at-requires
 lengths-at-requires c κs = search needs
@@ -33,7 +33,7 @@ returns-2 c =
     let b = c .before .before .before .before .before in
     let n = cells-read (now (b .args .arena)) (b .args .c) (c .before .before .lengths-at .ensures) in (
       c .lay-block .ensures .0 ∙ ap (free (now (b .args .seen)) (b .args .c)) n,
-      c .lay-block .ensures .1 ∙ ap (lay (now (b .args .seen)) (b .args .c)) n,
+      c .lay-block .ensures .1 ∙ ap (λ (k : ℕ). putRun (now (b .args .seen)) (b .args .c) k 1) n,
     )
 
 pub lay-record-spec : {M : Type 1} → statement M

@@ -1,4 +1,4 @@
--- `put_mask`: each way is the model's clause for that bit. Assumes nothing.
+-- `put_mask`: each way is the definition's clause for that bit. Assumes nothing.
 use Rattle.cells.proofs.put_mask.Statement.{statement}
 use Rattle.cells.proofs.put_mask.Tie as tie
 

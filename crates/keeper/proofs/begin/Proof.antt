@@ -25,8 +25,8 @@ returns c =
 entry-of-requires : tie.Need-entry-of-requires
 entry-of-requires c κs = search needs
 
-wide-requires : tie.Need-wide-requires
-wide-requires c κs = search needs
+cast-cell : tie.Need-cast-cell
+cast-cell c = search needs
 
 lengths-at-requires : tie.Need-lengths-at-requires
 lengths-at-requires c κs = search needs
@@ -42,12 +42,12 @@ returns-2 c =
     let b4 = c .before .before .before .before in
     let b8 = b4 .before .before .before .before in
     let b12 = b8 .before .before .before .before in
-    let a = b12 .before .before .before .args in
-    let w = b4 .before .wide .ensures ∙ b4 .before .before .entry-of .ensures in
+    let a = b12 .before .before .args in
+    let w = b4 .before .entry-of .ensures in
     let t = rw (b4 .lengths-at .ensures, w) at (c .before .before .lowest-run .ensures) in
     c .refused2 .ensures
     ∙ sym (begin-nowhere (a .t1) (now (a .arena)) (a .meter)
-    (none-applied (b8 .before .before .record-refusal .ensures) (b8 .before .if1 .left)) (rw (w, t) at (c .before .if2 .taken)))
+    (none-applied (b8 .before .record-refusal .ensures) (b8 .if1 .left)) (rw (w, t) at (c .before .if2 .taken)))
 
 refused-requires-3 : tie.Need-refused-requires-3
 refused-requires-3 c κs = search needs
@@ -57,20 +57,22 @@ returns-3 c =
     let b4 = c .before .before .before .before in
     let b8 = b4 .before .before .before .before in
     let b12 = b8 .before .before .before .before in
-    let b16 = b12 .before .before .before .before in
-    let a = b16 .args in
-    let w = b4 .before .before .wide .ensures ∙ b4 .before .before .before .entry-of .ensures in
+    let a = b12 .before .before .before .args in
+    let w = b4 .before .before .entry-of .ensures in
     let t = rw (b4 .before .lengths-at .ensures, w) at (c .before .before .before .lowest-run .ensures) in
     c .refused3 .ensures
     ∙ sym (begin-spent (a .t1) (now (a .arena)) (a .meter)
-    (none-applied (b8 .before .before .before .record-refusal .ensures) (b8 .before .before .if1 .left))
+    (none-applied (b8 .before .before .record-refusal .ensures) (b8 .before .if1 .left))
     (rw (w, t) at (c .before .before .if2 .left)) (c .before .if3 .taken))
 
 take-run-requires : tie.Need-take-run-requires
 take-run-requires c κs = rw (c .before .before .before .before .lengths-at .ensures) (cells-short _)
 
-cast-t22 : tie.Need-cast-t22
-cast-t22 c = search needs
+cast-first-move : tie.Need-cast-first-move
+cast-first-move c = search needs
+
+first-move-requires : tie.Need-first-move-requires
+first-move-requires c κs = search needs
 
 one-more-requires : tie.Need-one-more-requires
 one-more-requires c κs = search needs
@@ -83,25 +85,25 @@ flagged-header-requires c κs = search needs
 
 returns-4 : tie.Need-returns-4
 returns-4 c =
-    let b4 = c .before .before .before .before in
+    let b4 = c .before .before .before .before .before in
     let b8 = b4 .before .before .before .before in
     let b12 = b8 .before .before .before .before in
     let b16 = b12 .before .before .before .before in
-    let a = b16 .before .before .before .args in
-    let w = b8 .before .wide .ensures ∙ b8 .before .before .entry-of .ensures in
+    let a = b16 .before .before .args in
+    let w = b8 .before .entry-of .ensures in
     let t = rw (b8 .lengths-at .ensures, w) at (b4 .before .before .lowest-run .ensures) in
     rw (begin-done (a .t1) (now (a .arena)) (a .meter)
-    (none-applied (b12 .before .before .record-refusal .ensures) (b12 .before .if1 .left)) (rw (w, t) at (b4 .before .if2 .left))
+    (none-applied (b12 .before .record-refusal .ensures) (b12 .if1 .left)) (rw (w, t) at (b4 .before .if2 .left))
     (b4 .if3 .left))
     (simp (
       c .flagged-header .ensures,
       c .before .place .ensures,
       c .before .before .one-more .ensures,
-      c .before .before .before .take-run .ensures,
+      c .before .before .before .first-move .ensures,
+      c .before .before .before .before .take-run .ensures,
       t,
       b8 .lengths-at .ensures,
       w,
-      b8 .before .before .entry-of .ensures,
     ))
 
 pub begin-spec : {M : Type 1} → statement M
@@ -112,7 +114,7 @@ begin-spec =
     refused-requires
     returns
     entry-of-requires
-    wide-requires
+    cast-cell
     lengths-at-requires
     lowest-run-requires
     refused-requires-2
@@ -120,7 +122,8 @@ begin-spec =
     refused-requires-3
     returns-3
     take-run-requires
-    cast-t22
+    cast-first-move
+    first-move-requires
     one-more-requires
     place-requires
     flagged-header-requires

@@ -1,7 +1,7 @@
 -- `in_hand`: the four stages are those numbered 1 to 4. Assumes nothing.
 use mathlib.Core.Path.{sym}
 use native.Mathlib.Omega.{arith}
-use Rattle.keeper.proofs.Stages.{in-hand, out-of-hand}
+use Rattle.model.proofs.StageNumbers.{in-hand, out-of-hand}
 use Rattle.keeper.proofs.in_hand.Statement.{statement}
 use Rattle.keeper.proofs.in_hand.Tie as tie
 

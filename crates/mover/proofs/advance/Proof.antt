@@ -5,7 +5,8 @@ use native.Mathlib.Omega.{arith}
 use borrow.Author.Needs.{needs}
 use denote.Ref.{now}
 use Rattle.model.specs.State.{idle, stageOf}
-use Rattle.mover.proofs.Stages.{no-stage, late-stays}
+use Rattle.model.proofs.StageNumbers.{stage-none}
+use Rattle.mover.proofs.Stages.{closes-stays}
 use Rattle.mover.proofs.advance.Statement.{statement}
 use Rattle.mover.proofs.advance.Tie as tie
 
@@ -31,7 +32,7 @@ returns-3 : tie.Need-returns-3
 returns-3 c =
     let b4 = c .before .before .before .before in
     let a = b4 .before .args in c .stay .ensures ∙ sym
-    (late-stays (now (a .arena)) (a .mv) (a .passed) (a .mv .stage) (omega arith) (omega arith))
+    (closes-stays (now (a .arena)) (a .mv) (a .passed) (a .mv .stage) (omega arith) (omega arith))
 
 returns-4 : tie.Need-returns-4
 returns-4 c =
@@ -39,7 +40,7 @@ returns-4 c =
     let a = b4 .args in
     let n = c .before .before .match .rest in
     let e : stageOf (a .mv .stage) ≡ idle =
-    no-stage (a .mv .stage) (n .0 .1) (n .1) (λ e. ⊎-elim (λ w. omega arith) (λ w. omega arith) (c .before .if1 .came))
+    stage-none (a .mv .stage) (n .0 .1) (n .1) (λ e. ⊎-elim (λ w. omega arith) (λ w. omega arith) (c .before .if1 .came))
     (λ e. ⊎-elim (λ w. omega arith) (λ w. omega arith) (c .before .if1 .came)) in
     rw e (c .stay2 .ensures)
 

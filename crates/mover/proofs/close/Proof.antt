@@ -2,7 +2,7 @@
 use mathlib.Core.Path.{sym}
 use borrow.Author.Needs.{needs}
 use denote.Ref.{now}
-use Rattle.mover.proofs.Stages.{early-unchanged}
+use Rattle.mover.proofs.Stages.{open-unchanged}
 use Rattle.mover.proofs.close.Statement.{statement}
 use Rattle.mover.proofs.close.Tie as tie
 
@@ -22,7 +22,7 @@ returns-3 : tie.Need-returns-3
 returns-3 c =
     let a = c .before .before .before .args in
     let n = c .match .rest in
-    sym (early-unchanged (a .control) (now (a .arena)) (a .control .mv .stage) (n .0 .1) (n .1))
+    sym (open-unchanged (a .control) (now (a .arena)) (a .control .mv .stage) (n .0 .1) (n .1))
 
 pub close-spec : {M : Type 1} → statement M
 close-spec = tie.close (tie.spec settle-requires give-back-requires returns returns-2 returns-3)

@@ -3,11 +3,11 @@ use borrow.Author.Needs.{needs}
 use Rattle.mover.proofs.commit.Statement.{statement}
 use Rattle.mover.proofs.commit.Tie as tie
 
-wide-requires : tie.Need-wide-requires
-wide-requires c κs = search needs
+cast-from : tie.Need-cast-from
+cast-from c = search needs
 
-wide-requires-2 : tie.Need-wide-requires-2
-wide-requires-2 c κs = search needs
+cast-target : tie.Need-cast-target
+cast-target c = search needs
 
 set-entry-requires : tie.Need-set-entry-requires
 set-entry-requires c κs = search needs
@@ -23,22 +23,19 @@ plain-header-requires c κs = search needs
 
 returns : tie.Need-returns
 returns c =
-    let b4 = c .before .before .before .before in
     simp (
       c .plain-header .ensures,
       c .before .place .ensures,
       c .before .before .one-more .ensures,
       c .before .before .before .set-entry .ensures,
-      b4 .before .wide2 .ensures,
-      b4 .before .before .wide .ensures,
     )
 
 pub commit-spec : {M : Type 1} → statement M
 commit-spec =
     tie.close
     (tie.spec
-    wide-requires
-    wide-requires-2
+    cast-from
+    cast-target
     set-entry-requires
     one-more-requires
     place-requires

@@ -7,14 +7,14 @@ use Rattle.mover.specs.Kept.{copyMove}
 use Rattle.mover.proofs.copy_word.Statement.{statement}
 use Rattle.mover.proofs.copy_word.Tie as tie
 
-wide-requires : tie.Need-wide-requires
-wide-requires c κs = search needs
+cast-lengths-at : tie.Need-cast-lengths-at
+cast-lengths-at c = search needs
 
 lengths-at-requires : tie.Need-lengths-at-requires
 lengths-at-requires c κs = search needs
 
-wide-requires-2 : tie.Need-wide-requires-2
-wide-requires-2 c κs = search needs
+cast-place : tie.Need-cast-place
+cast-place c = search needs
 
 place-requires : tie.Need-place-requires
 place-requires c κs = search needs
@@ -35,38 +35,34 @@ returns : tie.Need-returns
 unfolding copyMove
 returns c =
     let b4 = c .before .before .before .before in
-    let b8 = b4 .before .before .before .before in
-    let l = ap (λ (l : Lengths). l .words) (rw (b8 .wide .ensures) at (b4 .before .before .before .lengths-at .ensures)) in
+    let l = ap (λ (l : Lengths). l .words) (b4 .before .before .before .lengths-at .ensures) in
     simp (
       eq-eqb _ _ (sym (c .before .before .before .one-more .ensures) ∙ c .before .if1 .taken
           ∙ l),
       c .one-copied .ensures,
       b4 .replica-word .ensures,
       b4 .before .place .ensures,
-      b4 .before .before .wide2 .ensures,
     )
 
 returns-2 : tie.Need-returns-2
 unfolding copyMove
 returns-2 c =
     let b4 = c .before .before .before .before in
-    let b8 = b4 .before .before .before .before in
-    let l = ap (λ (l : Lengths). l .words) (rw (b8 .wide .ensures) at (b4 .before .before .before .lengths-at .ensures)) in
+    let l = ap (λ (l : Lengths). l .words) (b4 .before .before .before .lengths-at .ensures) in
     simp (
       ne-eqb _ _ (rw (c .before .before .before .one-more .ensures, l) at (c .before .if1 .left)),
       c .one-copied2 .ensures,
       b4 .replica-word .ensures,
       b4 .before .place .ensures,
-      b4 .before .before .wide2 .ensures,
     )
 
 pub copy-word-spec : {M : Type 1} → statement M
 copy-word-spec =
     tie.close
     (tie.spec
-    wide-requires
+    cast-lengths-at
     lengths-at-requires
-    wide-requires-2
+    cast-place
     place-requires
     replica-word-requires
     one-more-requires

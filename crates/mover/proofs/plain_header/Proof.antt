@@ -5,14 +5,11 @@ use Rattle.record.proofs.Words.{packed-plain}
 use Rattle.mover.proofs.plain_header.Statement.{statement}
 use Rattle.mover.proofs.plain_header.Tie as tie
 
-wide-requires : tie.Need-wide-requires
-wide-requires c κs = search needs
-
 pack-requires : tie.Need-pack-requires
 pack-requires c κs = search needs
 
 returns : tie.Need-returns
-returns c = rw (packed-plain (c .before .before .args .cell) (omega arith)) at (rw (c .before .wide .ensures) at (c .pack .ensures))
+returns c = rw (packed-plain (c .before .args .cell) (omega arith)) at (c .pack .ensures)
 
 pub plain-header-spec : {M : Type 1} → statement M
-plain-header-spec = tie.close (tie.spec wide-requires pack-requires returns)
+plain-header-spec = tie.close (tie.spec pack-requires returns)

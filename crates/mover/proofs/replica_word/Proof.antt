@@ -8,8 +8,8 @@ use Rattle.mover.proofs.replica_word.Tie as tie
 plain-header-requires : tie.Need-plain-header-requires
 plain-header-requires c κs = search needs
 
-wide-requires : tie.Need-wide-requires
-wide-requires c κs = search needs
+cast-place : tie.Need-cast-place
+cast-place c = search needs
 
 place-requires : tie.Need-place-requires
 place-requires c κs = search needs
@@ -28,10 +28,9 @@ returns-2 c =
       ne-eqb _ _ (c .before .before .before .if1 .left),
       c .load .ensures,
       c .before .place .ensures,
-      c .before .before .wide .ensures,
     )
 
 pub replica-word-spec : {M : Type 1} → statement M
 replica-word-spec =
     tie.close
-    (tie.spec plain-header-requires wide-requires place-requires load-requires returns returns-2)
+    (tie.spec plain-header-requires cast-place place-requires load-requires returns returns-2)

@@ -6,8 +6,8 @@ use Rattle.mover.specs.Kept.{settleKept}
 use Rattle.mover.proofs.settle.Statement.{statement}
 use Rattle.mover.proofs.settle.Tie as tie
 
-wide-requires : tie.Need-wide-requires
-wide-requires c κs = search needs
+cast-header-at : tie.Need-cast-header-at
+cast-header-at c = search needs
 
 header-at-requires : tie.Need-header-at-requires
 header-at-requires c κs = search needs
@@ -24,20 +24,20 @@ call-off-requires c κs = search needs
 returns : tie.Need-returns
 unfolding settleKept
 returns c =
-    let h = rw (c .before .before .before .before .wide .ensures) at (c .before .before .before .header-at .ensures) in
+    let h = c .before .before .before .header-at .ensures in
     simp (eq-eqb _ _ (sym h ∙ c .before .if1 .taken ∙ c .before .before .flagged-header .ensures)) (c .commit .ensures)
 
 returns-2 : tie.Need-returns-2
 unfolding settleKept
 returns-2 c =
-    let h = rw (c .before .before .before .before .wide .ensures) at (c .before .before .before .header-at .ensures) in
+    let h = c .before .before .before .header-at .ensures in
     simp (ne-eqb _ _ (rw (h, c .before .before .flagged-header .ensures) at (c .before .if1 .left))) (c .call-off .ensures)
 
 pub settle-spec : {M : Type 1} → statement M
 settle-spec =
     tie.close
     (tie.spec
-    wide-requires
+    cast-header-at
     header-at-requires
     flagged-header-requires
     commit-requires

@@ -1,13 +1,13 @@
 -- `record::lay_record` meets its contract: header and label are stores before the zeros are laid. Assumes nothing.
 use borrow.Author.Needs.{needs}
-use mathlib.Core.Path.{_≡_, sym, _∙_}
+use mathlib.Core.Path.{_≡_, _∙_}
 use mathlib.Core.Bool.{false}
-use mathlib.Core.List.{List, _∷_}
-use Prim.Native.Nat.{ℕ, suc}
+use mathlib.Core.List.{List, [], _∷_}
+use Prim.Native.Nat.{ℕ, _+_}
 use native.Mathlib.Omega.{arith}
 use lib.ListN.{set, replicate}
 use Rattle.model.specs.Arena.{start, place, plain, labelOf, payloadPlace, newRecord, laid, payload}
-use Rattle.model.proofs.Records.{laid-first}
+use Rattle.model.proofs.Records.{stored-first, laid-append}
 use Rattle.record.specs.Words.{packed}
 use Rattle.record.proofs.Words.{packed-plain}
 use Rattle.record.proofs.lay_record.Statement.{statement}
@@ -17,14 +17,10 @@ header-label-zeros : (a : List ℕ) (c meter kind : ℕ)
     → laid (set (set a (place c 0) (plain c)) (place c 1) (labelOf meter kind)) (payloadPlace c 0) (replicate (payload kind) 0)
     ≡ laid a (start c) (newRecord c meter kind)
 header-label-zeros a c meter kind =
-    let l : List ℕ = replicate (payload kind) 0 in
     let p : place c 0 ≡ start c = omega arith in
-    let q : place c 1 ≡ suc (start c) = omega arith in
-    let r : payloadPlace c 0 ≡ suc (suc (start c)) = omega arith in
-    rw (p, q, r)
-    (sym
-    (laid-first a (start c) (plain c) (labelOf meter kind ∷ l)
-    ∙ laid-first (set a (start c) (plain c)) (suc (start c)) (labelOf meter kind) l))
+    let r : payloadPlace c 0 ≡ start c + 2 = omega arith in
+    rw (p, r, stored-first a (start c) (plain c) (labelOf meter kind ∷ []))
+    (laid-append a (start c) (plain c ∷ labelOf meter kind ∷ []) (replicate (payload kind) 0))
 
 lengths-of-requires : tie.Need-lengths-of-requires
 lengths-of-requires c κs = search needs

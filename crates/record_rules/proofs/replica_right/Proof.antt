@@ -1,5 +1,4 @@
 -- `record_rules::replica_right` meets its contract: word 0 is asked once copied, then word 1. Assumes nothing.
-use mathlib.Core.List.{[]}
 use mathlib.Core.Path.{_∙_}
 use mathlib.Core.Path.{ap₂}
 use native.Mathlib.Omega.{arith}
@@ -55,7 +54,7 @@ returns-4 c =
     let b = c .before .before .before .before .before in
     let b2 = b .before .before .before .before .before .before .before in
     ap₂ eqb (c .before .before .label-at .ensures) (c .label-at2 .ensures)
-    ∙ replica-last [] (b2 .args .mv) (now (b2 .args .arena)) (omega arith)
+    ∙ replica-last (b2 .args .mv) (now (b2 .args .arena)) (omega arith)
     (rw (b .before .before .header-at .ensures) at (said-yes (b .before .is-plain .ensures) (b .if2 .left)))
 
 pub replica-right-spec : {M : Type 1} → statement M

@@ -4,7 +4,7 @@ use borrow.Author.Tests.{lt-ltb, le-ltb}
 use native.Mathlib.Omega.{arith}
 use lib.ListN.{length-set}
 use Rattle.table.specs.Words.{putFront}
-use Rattle.table.proofs.Stores.{stored-first}
+use Rattle.model.proofs.Records.{stored-first}
 use Rattle.table.proofs.put_front_at.Statement.{statement}
 use Rattle.table.proofs.put_front_at.Tie as tie
 

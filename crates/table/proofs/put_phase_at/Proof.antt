@@ -4,7 +4,7 @@ use borrow.Author.Tests.{lt-ltb, le-ltb}
 use native.Mathlib.Omega.{arith}
 use lib.ListN.{length-set}
 use Rattle.table.specs.Words.{listed, putPhase}
-use Rattle.table.proofs.Stores.{stored-laid}
+use Rattle.model.proofs.Records.{stored-laid}
 use Rattle.table.proofs.put_phase_at.Statement.{statement}
 use Rattle.table.proofs.put_phase_at.Tie as tie
 

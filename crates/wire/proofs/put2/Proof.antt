@@ -1,9 +1,10 @@
 -- `wire::put2` meets its contract: two stores are two bytes laid. Assumes nothing.
 use mathlib.Core.Path.{_∙_, sym, ap}
+use mathlib.Core.List.{[], _∷_}
 use native.Mathlib.Omega.{arith}
 use lib.ListN.{length-set}
 use Rattle.model.specs.Arena.{laid}
-use Rattle.wire.proofs.Laid.{two-stores}
+use Rattle.model.proofs.Records.{stored-first}
 use Rattle.wire.proofs.Bytes.{bytes-two}
 use borrow.Author.Needs.{needs}
 use Rattle.wire.proofs.put2.Statement.{statement}
@@ -28,7 +29,7 @@ same-length : tie.Need-same-length
 same-length c = search needs
 
 returns : tie.Need-returns
-returns c = two-stores _ _ _ _ ∙ ap (laid _ _) (sym (bytes-two _ (search needs)))
+returns c = stored-first _ _ _ (_ ∷ []) ∙ ap (laid _ _) (sym (bytes-two _ (search needs)))
 
 pub put2-spec : {M : Type 1} → statement M
 put2-spec =
