@@ -1,7 +1,7 @@
 #!/usr/bin/env bash
 # The "Errors that look reasonable", and other wrong readings of a step, each put into the definitions: the theorems of `demands` must
 # refuse it. (A must-fail edit stays within its crate; here the definitions are in `model` and what refuses them in `demands`.) Laws of
-# single steps that would refuse most of them already, and that the theorems do not use, are left out, so that the theorems have to.
+# single steps that would refuse most of them already, and that demands 2 and 3 do not use, are left out, so that these have to.
 # With an edit it tries that one, else all of tests/wrong-steps.
 set -euo pipefail
 cd "$(dirname "${BASH_SOURCE[0]}")/.."
@@ -41,9 +41,9 @@ label=$(basename "$edit" .edit)
 mkdir -p "$work/crates"
 cp -R crates/model crates/demands "$work/crates/"
 printf 'model:\ndemands: model\n' >"$work/crates.txt"
-for law in Effects Answered; do
-    rm "$work/crates/model/proofs/$law.antt"
-    replace "$work/crates/model/proofs/Lib.antt" "pub mod $law
+for law in model/proofs/Effects model/proofs/Answered demands/proofs/Requests; do
+    rm "$work/crates/$law.antt"
+    replace "$work/crates/${law%/*}/Lib.antt" "pub mod ${law##*/}
 " ''
 done
 apply "$edit"
@@ -52,10 +52,11 @@ if (cd "$work" && rt check demands) >"$log" 2>&1; then
     echo "$label: NOT REFUSED: demands is still proved"
     exit 1
 fi
-# what fails by itself, and not because something before it failed
-failed=$(grep -E 'crates/demands/proofs/[A-Za-z]+\.antt:[0-9]+:[0-9]+: error: ' "$log" | grep -v 'was not admitted' |
-    sed -E 's/.*proofs\/([A-Za-z]+)\.antt:[0-9:]+ error: `([^`]+)`.*/\1 \2/' | sort -u | paste -sd, || true)
-if ! grep -q '^rt: model proved' "$log" || [ -z "$failed" ]; then
+# what fails by itself, and not because something before it failed; an error of another form, say of an import, is none that is meant
+errors=$(grep -E 'crates/demands/proofs/[A-Za-z]+\.antt:[0-9]+:[0-9]+: error: ' "$log" | grep -v 'was not admitted' || true)
+failed=$(sed -nE 's/.*proofs\/([A-Za-z]+)\.antt:[0-9:]+ error: `([^`]+)`: .*/\1 \2/p' <<<"$errors" | sort -u | paste -sd,)
+odd=$(grep -vE 'error: `[^`]+`: ' <<<"$errors" || true)
+if ! grep -q '^rt: model proved' "$log" || [ -z "$failed" ] || [ -n "$odd" ]; then
     echo "$label: refused, but not by a theorem of demands:"
     grep -m 3 -E 'error|rt:' "$log" || tail -n 3 "$log"
     exit 1

@@ -19,9 +19,9 @@ use Rattle.model.specs.KeeperSteps.{startCopying, replicaWord, copyWord}
 use Rattle.model.specs.Steps.{Step, ADVANCE}
 use Rattle.model.specs.Rules as rules
 use Rattle.model.proofs.Choice.{by-test, same-or-not}
+use Rattle.model.proofs.Records.{replica-copies}
 use Rattle.model.proofs.ByKind.{by-kind}
 use Rattle.model.proofs.Counts.{rise-is}
-use Rattle.model.proofs.Effects.{replica-copies}
 use Rattle.model.proofs.Readings.{Flag, FlagUp, HeaderRight, own-header, flag-header, Early, Late, NumbersAt}
 use Rattle.model.proofs.Says.{says-holds, one-yes}
 use Rattle.demands.specs.Log.{Client, Account}

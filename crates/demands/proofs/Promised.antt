@@ -1,16 +1,15 @@
--- The demands are met. The history by the library's step is the log by `act`, since every state reached is sound; each promise of a
--- history is then a theorem over the log, line by line. The promises of every sound state are kept by `Kept.sound-kept`,
--- `NoWrap.no-count-wraps` and `Runs.run-is-steps`. Assumes nothing.
+-- Demands 2 and 3 are met. The history by the library's step is the log by `act`, since every state reached is sound; each promise of a
+-- history is then a theorem over the log, line by line. Demand 1 is `Requests.demand1`; the promises of every sound state are kept by
+-- `Kept.sound-kept`, `NoWrap.no-count-wraps` and `Runs.run-is-steps`. Assumes nothing.
 use mathlib.Core.Path.{_≡_, refl, ap, _∙_}
 use mathlib.Core.List.{List, [], _∷_}
 use Rattle.model.specs.State.{State, Outcome}
 use Rattle.model.specs.Steps.{Step, act, stepCall}
 use Rattle.demands.specs.Log.{Line, line, Log, Program, reachedBy, historyBy, after, log}
-use Rattle.demands.specs.Promises.{reached, history, EachLine, ReadRight, WriteRight, AccessPrice, MovePrice, Demand1, Demand2}
-use Rattle.demands.specs.Promises.{Demand3, ReachedSound}
+use Rattle.demands.specs.Promises.{reached, history, EachLine, ReadRight, WriteRight, AccessPrice, MovePrice, Demand2, Demand3}
+use Rattle.demands.specs.Promises.{ReachedSound}
 use Rattle.demands.proofs.Kept.{after-sound}
 use Rattle.demands.proofs.Runs.{step-after}
-use Rattle.demands.proofs.Requests.{fresh-request, audit-request, fill-request, step-request, run-request}
 use Rattle.demands.proofs.LastWritten.{read-right, write-right}
 use Rattle.demands.proofs.MoveCounts.{begun-is-answered, committed-is-answered, aborted-is-answered, move-price}
 use Rattle.demands.proofs.SwapCounts.{swaps-are-answered, slot-swaps-at-most-begun, all-swaps-at-most-begun}
@@ -47,11 +46,6 @@ each-line P h l = rw (history-is l) (by l)
     by : (l : List Step) → EachLine P (log l)
     by [] = tt
     by (t ∷ l) = (h l t, by l)
-
--- Demand 1
-pub demand1 : Demand1
-demand1 s =
-    record { fresh = fresh-request s; audit = audit-request s; fill = fill-request s; step = step-request s; run = run-request s }
 
 -- Demand 2
 pub demand2 : Demand2

@@ -18,7 +18,7 @@ use Rattle.model.proofs.Refusals.{Passed, numbers, rising, by-refusals, unless-
 use Rattle.model.proofs.Refusals.{lowest-is-given, given-applies}
 use Rattle.model.proofs.Answered.{effect-accepted, lines-tabled, answered, fresh-answered, fill-answered, audit-answered}
 use Rattle.model.proofs.Calls.{ran-done}
-use Rattle.demands.specs.Promises.{stepRefusals, runRefusals, LowestGiven, Request, RunRequest}
+use Rattle.demands.specs.Promises.{stepRefusals, runRefusals, LowestGiven, Request, RunRequest, Demand1}
 
 -- l are the lines that are asked, k the number of what is accepted
 lowest-given : (l : List Refusal) (k : ℕ) → T (rising l) → (Passed l → 20 ≤ k) → LowestGiven l (refuse l (λ i. i) k)
@@ -33,15 +33,15 @@ module _ (s : State) where
         given = rw (refuse-map (λ (x : Outcome). number (x .answer)) l (refused s) o) (lowest-given l (number (o .answer)) t h);
       }
 
-  pub fresh-request : Request s (1 if wrongSize s ∷ []) (freshCall s)
+  fresh-request : Request s (1 if wrongSize s ∷ []) (freshCall s)
   unfolding freshCall
   fresh-request = request (1 if wrongSize s ∷ []) (outcome (Done 0) fresh) tt (λ _. omega arith) (fresh-answered s)
 
-  pub audit-request : Request s (1 if wrongSize s ∷ []) (auditCall s)
+  audit-request : Request s (1 if wrongSize s ∷ []) (auditCall s)
   unfolding auditCall
   audit-request = request (1 if wrongSize s ∷ []) (outcome (Done (firstBroken s)) s) tt (λ _. omega arith) (audit-answered s)
 
-  pub fill-request : Request s (callRefusals s) (fillCall s)
+  fill-request : Request s (callRefusals s) (fillCall s)
   unfolding fillCall
   fill-request = request (callRefusals s) (outcome (Done (fill (s .control .map))) s) tt (λ _. omega arith) (fill-answered s)
 
@@ -50,7 +50,7 @@ module _ (s : State) where
   unfolding stepCall act
   asks-all t = refuse-after (callRefusals s) (refusals (nameOf t) s t) (refused s) (effect (nameOf t) s t)
 
-  pub step-request : (t : Step) → Request s (stepRefusals s t) (stepCall s t)
+  step-request : (t : Step) → Request s (stepRefusals s t) (stepCall s t)
   step-request t =
       let l : List Refusal = refusals (nameOf t) s t in
       rw (asks-all t)
@@ -59,7 +59,7 @@ module _ (s : State) where
       (λ p. effect-accepted s t (nameOf t) (passed-after (callRefusals s) l p) .from) (rw (asks-all t) at (answered s t)))
 
   -- the steps of a run that is not refused are done, and the run answers 30
-  pub run-request : (ws slots : List ℕ) → RunRequest s (runRefusals s ws slots) slots (runCall s ws slots)
+  run-request : (ws slots : List ℕ) → RunRequest s (runRefusals s ws slots) slots (runCall s ws slots)
   unfolding runCall
   run-request ws slots =
       let l : List Refusal = runRefusals s ws slots in
@@ -76,3 +76,7 @@ module _ (s : State) where
             rw (refuse-map (λ (r : Ran). number (r .answer)) l f o)
             (lowest-given l (number (o .answer)) tt (λ _. omega (arith, ap number done)));
       }
+
+pub demand1 : Demand1
+demand1 s =
+    record { fresh = fresh-request s; audit = audit-request s; fill = fill-request s; step = step-request s; run = run-request s }

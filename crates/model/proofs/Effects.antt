@@ -41,10 +41,6 @@ copy-leaves s i n =
     (λ _. getD-set-other (s .arena) (place (moveOf s .target) (moveOf s .copied)) i (replicaWord (s .arena) (moveOf s)) 0 n)
     (λ _. getD-set-other (s .arena) (place (moveOf s .target) (moveOf s .copied)) i (replicaWord (s .arena) (moveOf s)) 0 n)
 
-pub replica-copies : (arena : List ℕ) (v : Move) → v .copied ≢ 0 → replicaWord arena v ≡ word arena (v .from) (v .copied)
-unfolding replicaWord
-replica-copies arena v n = rw (ne-eqb (v .copied) 0 n)
-
 -- a swap that wins clears the flag; one that loses is ready at once, at the header's target
 pub swap-clears : (arena : List ℕ) (r : Row) (c : ℕ) (x : Access) → place c 0 < length arena → header arena c ≡ flagged c
     → header (changed arena (swap arena r c x .change)) c ≡ plain c

@@ -1,13 +1,17 @@
--- Laws of words laid over the arena: a store before or after them is one word more; what stands at each place; a new record's words.
--- Assumes nothing.
+-- Laws of words laid over the arena: a store before or after them is one word more; what stands at each place; a new record's words, and
+-- those of a replica. Assumes nothing.
 use mathlib.Core.Path.{_≡_, refl, sym, ap, _∙_}
+use mathlib.Core.Logic.{_≢_}
 use mathlib.Core.List.{List, [], _∷_, _++_}
 use Prim.Native.Nat.{ℕ, zero, suc, _+_, _*_, _≤_, _<_}
 use native.Mathlib.Nat.{zero-add, suc-add, add-suc}
 use native.Mathlib.Numerals.{add-one}
 use native.Mathlib.Omega.{arith}
 use lib.ListN.{length, getD, set, replicate, length-replicate, replicate-append-replicate}
-use Rattle.model.specs.Arena.{cells, payload, newRecord, laid}
+use borrow.Author.Tests.{ne-eqb}
+use Rattle.model.specs.declared.Move.{Move}
+use Rattle.model.specs.Arena.{cells, payload, word, newRecord, laid}
+use Rattle.model.specs.KeeperSteps.{replicaWord}
 use Rattle.model.proofs.Says.{getD-fresh}
 use Rattle.model.proofs.ByKind.{Real, by-kind}
 
@@ -108,3 +112,8 @@ new-length c m k h =
 
 pub new-zero : (c m k w : ℕ) → getD (newRecord c m k) (2 + w) 0 ≡ 0
 new-zero c m k w = let e : 2 + w ≡ suc (suc w) = omega arith in rw e (getD-fresh (payload k) w 0)
+
+-- every word of the replica but its header is the old block's
+pub replica-copies : (arena : List ℕ) (v : Move) → v .copied ≢ 0 → replicaWord arena v ≡ word arena (v .from) (v .copied)
+unfolding replicaWord
+replica-copies arena v n = rw (ne-eqb (v .copied) 0 n)

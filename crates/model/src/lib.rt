@@ -71,7 +71,7 @@ pub enum Answer {
     Written,
 }
 
-// A client's step changes at most one word of the arena.
+// The word of the arena that a step changes, if any: no step but ADMIT changes more.
 pub enum Change {
     Nothing,
     Put { at: usize, word: u32 },
