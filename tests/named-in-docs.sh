@@ -37,11 +37,18 @@ while IFS= read -r odd; do
     complain "and the edits differ: $odd"
 done < <(diff <(echo "$listed") <(echo "$edits") | sed -n 's/^< /listed once too often or not there: /p; s/^> /not listed: /p')
 
+while IFS= read -r row; do
+    crate=$(sed -E 's#.*\| `([a-z_]+)/.*#\1#' <<<"$row") function=$(sed -E 's#.* of `([a-z0-9_]+)`.*#\1#' <<<"$row")
+    grep -qE "fn $function[(<]" "crates/$crate"/src/*.rt || complain "names the function $function of $crate, which is not there"
+done < <(grep -E '^\|.*\| `[a-z_]+/[a-z0-9_]+` \| the (contract|walk) of `' docs/PROOFS.md)
+
+comments=0
 while IFS=: read -r file line name; do
-    crate=${file#crates/}
+    comments=$((comments + 1)) crate=${file#crates/}
     [ -f "crates/${crate%%/*}/${name%.antt}.antt" ] || wrong "$file:$line names $name, which is not there"
 done < <(grep -rnoE '(specs|proofs)/[A-Z][A-Za-z]*(\.antt)?' crates --include='*.antt' --include='*.rt')
 
 [ "$statements" -gt 0 ] && [ "$files" -gt 0 ] || complain "names no statement, or has no reading order"
+[ "$comments" -gt 0 ] || wrong "no comment names a file"
 echo "$statements names, $files lengths and $(wc -l <<<"$edits") edits looked up"
 exit "$fail"

@@ -28,4 +28,5 @@ echo "replay: $cases cases, $wrong wrong"
 tests/tools.sh
 mkdir -p build
 export CARGO_TARGET_DIR=$PWD/build/plain REPLAY="${run[*]}" SEEDS=${SEEDS:-400}
-(cd tests/rust/plain && cargo test --offline --release --test program -- --ignored --nocapture)
+(cd tests/rust/plain && cargo test --offline --release --test program -- --include-ignored --nocapture) | tee build/texts.log
+grep -q '^[1-9][0-9]* texts' build/texts.log

@@ -1,7 +1,7 @@
 #!/usr/bin/env bash
 # The "Errors that look reasonable", and other wrong readings of a step, each put into the definitions: the theorems of `demands` must
 # refuse it. (A must-fail edit stays within its crate; here the definitions are in `model` and what refuses them in `demands`.) Laws of
-# single steps that would refuse most of them already, and that demands 2 and 3 do not use, are left out, so that these have to.
+# single steps that would refuse most of them already, and all that demands 2 and 3 do not use, are left out, so that these have to.
 # With an edit it tries that one, else all of tests/wrong-steps.
 set -euo pipefail
 cd "$(dirname "${BASH_SOURCE[0]}")/.."
@@ -41,7 +41,7 @@ label=$(basename "$edit" .edit)
 mkdir -p "$work/crates"
 cp -R crates/model crates/demands "$work/crates/"
 printf 'model:\ndemands: model\n' >"$work/crates.txt"
-for law in model/proofs/Effects model/proofs/Answered demands/proofs/Requests; do
+for law in model/proofs/Effects model/proofs/Answered demands/proofs/Requests demands/proofs/KeptOut demands/proofs/NoWrap; do
     rm "$work/crates/$law.antt"
     replace "$work/crates/${law%/*}/Lib.antt" "pub mod ${law##*/}
 " ''

@@ -17,7 +17,8 @@ use Rattle.model.specs.declared.Stepped.{Stepped}
 use Rattle.model.specs.Arena.{none, header, flagged, flagOf}
 use Rattle.model.specs.Rows.{FourHolds, withPhase, withSwaps, freshRow, hold, holdOf}
 use Rattle.model.specs.ClientSteps.{attach, detach, openHold, dropHold, atHeader, go, swap, rest, forwarded, changed}
-use Rattle.model.specs.Refusals.{Refusal, attachRefusals, restRefusals, openRefusals, dropRefusals, goRefusals}
+use Rattle.model.specs.Choice.{Refusal}
+use Rattle.model.specs.Refusals.{attachRefusals, restRefusals, openRefusals, dropRefusals, goRefusals}
 use Rattle.model.specs.Steps.{Name, ADMIT, RETIRE, BEGIN, ADVANCE, ATTACH, DETACH, OPEN, DROP, READ, WRITE, GO, REST, UNKNOWN, NOBODY}
 use Rattle.model.proofs.Choice.{by-test}
 use Rattle.model.proofs.Refusals.{unless-refused}

@@ -16,7 +16,7 @@ use Rattle.model.specs.Arena.{fill}
 use Rattle.model.specs.State.{State, Outcome, outcome, number, Answered, freshControl}
 use Rattle.model.specs.Steps.{Step, step, refused, act, wrongSize, unsound, freshCall, auditCall, fillCall, stepCall, Ran, ran, oneByOne}
 use Rattle.model.specs.Steps.{callRefusals, stepsOf, runSizes, runCall}
-use Rattle.model.specs.Refusals.{given}
+use Rattle.model.specs.Choice.{given}
 use Rattle.model.specs.Rules.{firstBroken}
 use Rattle.model.proofs.Choice.{by-test, and-parts}
 use Rattle.model.proofs.Records.{laid-all}

@@ -10,7 +10,7 @@ use lib.ListN.{length}
 use borrow.Author.Tests.{eq-eqb, ne-eqb, eqb-true, not-false}
 use Rattle.model.specs.declared.Control.{Control}
 use Rattle.model.specs.State.{State}
-use Rattle.model.specs.Refusals.{given}
+use Rattle.model.specs.Choice.{given}
 use Rattle.model.specs.Rules.{firstBroken}
 use Rattle.model.specs.Steps.{wrongSize, unsound, callRefusals}
 use Rattle.model.proofs.Choice.{and-parts, same-or-not}

@@ -2,7 +2,7 @@
 // Sizes first, then soundness, once a call; a refused call changes nothing.
 ghost use mathlib.Core.Path.{_≡_};
 ghost use lib.ListN.{length, replicate};
-ghost use Rattle.model.specs.Refusals.{given};
+ghost use Rattle.model.specs.Choice.{given};
 ghost use Rattle.model.specs.Steps.{step, callRefusals, freshCall, stepCall, runCall, fillCall, auditCall, runSizes};
 ghost use Rattle.archive.specs.Does.{meant, CallDoes, RunDoes, LookDoes, rightSizes};
 use model::Answer;

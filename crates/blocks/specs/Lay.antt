@@ -19,10 +19,11 @@ layWord m w mask = set m w (bitOr (getD m w 0) mask)
 unfoldable pub freeWord : List ℕ → ℕ → ℕ → Bool
 freeWord m w mask = eqb (bitAnd (getD m w 0) mask) 0
 
--- none of the n cells from c on was there: in c's word, and then in the next
+-- of the n cells from c on those in c's word, laid
 abbrev pub layFirst : List ℕ → ℕ → ℕ → List ℕ
 layFirst m c n = layWord m (c / 64) (lowMask (c % 64) n)
 
+-- none of the n cells from c on was there: in c's word, and then in the next
 unfoldable pub free : List ℕ → ℕ → ℕ → Bool
 free m c n = freeWord m (c / 64) (lowMask (c % 64) n) and freeWord (layFirst m c n) (c / 64 + 1) (highMask (c % 64) n)
 

@@ -9,9 +9,9 @@ use native.Mathlib.Omega.{arith}
 use borrow.Author.Tests.{ltb-true, ltb-false}
 use Rattle.model.specs.declared.Answer.the-variants.{Refused, Done}
 use Rattle.model.specs.State.{State, Outcome, outcome, number, fresh}
-use Rattle.model.specs.Refusals.{_if_}
-use Rattle.model.specs.Steps.{Step, act, refused, wrongSize, unsound, freshCall, stepCall, fillCall, auditCall, runCall, Ran, ran, oneByOne}
-use Rattle.model.specs.Steps.{stepsOf, runSizes, callRefusals}
+use Rattle.model.specs.Choice.{_if_}
+use Rattle.model.specs.Steps.{Step, act, refused, wrongSize, freshCall, stepCall, fillCall, auditCall, runCall, Ran, ran, oneByOne}
+use Rattle.model.specs.Steps.{stepsOf, callRefusals, runRefusals}
 use Rattle.model.proofs.Refusals.{unless-refused}
 use Rattle.model.proofs.Calls.{wrong-size-refused, run-wrong-size, ran-done}
 use Rattle.model.proofs.Answered.{answered}
@@ -80,7 +80,7 @@ steps-keep (t ∷ l) s R = steps-keep l (act s t .next) (acts s (t .who) (t .cod
 run-keeps : (ws slots : List ℕ) (s : State) → Rows s → Keeps s (ranOut (runCall s ws slots))
 unfolding runCall
 run-keeps ws slots s R =
-    unless-refused (λ (r : Ran). Keeps s (ranOut r)) (1 if wrongSize s ∷ 1 if not (runSizes ws slots) ∷ 2 if unsound s ∷ [])
+    unless-refused (λ (r : Ran). Keeps s (ranOut r)) (runRefusals s ws slots)
     (λ n. ran (Refused n) slots s) (oneByOne act s (stepsOf ws)) (turned-down s R)
     (λ _. let l = stepsOf ws in
     accepted s (ranOut (oneByOne act s l)) (steps-keep l s R) (ap isRefused (ran-done act s l)))

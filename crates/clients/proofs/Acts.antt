@@ -16,7 +16,7 @@ use Rattle.model.specs.declared.Answer.the-variants.{Refused}
 use Rattle.model.specs.Rows.{freshRow}
 use Rattle.model.specs.State.{State, state, entry, outcome}
 use Rattle.model.specs.ClientSteps.{attach, detach, openHold, dropHold, loadHeader, go, rest}
-use Rattle.model.specs.Refusals.{Refusal, refuse}
+use Rattle.model.specs.Choice.{Refusal, refuse}
 use Rattle.model.specs.Steps.{Step, Name, ADMIT, RETIRE, BEGIN, ADVANCE, ATTACH, DETACH, OPEN, DROP, READ, WRITE, GO, REST, UNKNOWN, NOBODY}
 use Rattle.model.specs.Steps.{clientCodes, named, ownRow, refusals, seated, effect, refused, act}
 use Rattle.clients.specs.Turns.{turn, refusedTurn, clientTurn}

@@ -6,7 +6,7 @@ use Prim.Native.Nat.{ℕ, _≤_, _<_}
 use native.Mathlib.Omega.{arith}
 use lib.Dec.{ltb}
 use Rattle.model.proofs.Refusals.{numbers, refused-by-given, accepted-by-given}
-use Rattle.model.specs.Refusals.{Refusal, given}
+use Rattle.model.specs.Choice.{Refusal, given}
 use Rattle.model.specs.declared.Row.{Row}
 use Rattle.model.specs.declared.Stepped.{Stepped}
 use Rattle.clients.specs.Turns.{refusedTurn, turn}

@@ -9,7 +9,8 @@ use Rattle.model.specs.declared.Change.the-variants.{Nothing}
 use Rattle.model.specs.declared.Stepped.{Stepped}
 use Rattle.model.specs.Rows.{holdOf, wordOf}
 use Rattle.model.specs.ClientSteps.{stepped, attach, detach, openHold, dropHold, loadHeader, go, rest}
-use Rattle.model.specs.Refusals.{Refusal, refuse, attachRefusals, restRefusals, openRefusals, dropRefusals, accessRefusals, goRefusals}
+use Rattle.model.specs.Choice.{Refusal, refuse}
+use Rattle.model.specs.Refusals.{attachRefusals, restRefusals, openRefusals, dropRefusals, accessRefusals, goRefusals}
 use Rattle.model.specs.Steps.{Name, ATTACH, DETACH, OPEN, DROP, READ, WRITE, GO, REST, ADMIT, RETIRE, BEGIN, ADVANCE, UNKNOWN, NOBODY}
 
 -- "All memory and the control record are then as before, and the value is 0."

@@ -26,7 +26,7 @@ use Rattle.model.specs.KeeperSteps.{admit, retire, begin, barrier, startCopying
 use Rattle.model.specs.KeeperSteps.{advance}
 use Rattle.model.specs.ClientSteps.{atHeader, loadHeader, swap, finish, go}
 use Rattle.model.specs.Rules.{isEarly}
-use Rattle.model.specs.Refusals.{Refusal, refuse}
+use Rattle.model.specs.Choice.{Refusal, refuse}
 use Rattle.model.specs.Steps.{Step, Name, ADMIT, RETIRE, BEGIN, ADVANCE, ATTACH, DETACH, OPEN, DROP, READ, WRITE, GO, REST, UNKNOWN, NOBODY}
 use Rattle.model.specs.Steps.{nameOf, ownRow, refusals, seated, effect, refused, act}
 use Rattle.model.proofs.Choice.{by-test, clash}

@@ -1,6 +1,6 @@
 -- What it means that a step of some name keeps the invariant: a refused one leaves state and account. Assumes nothing.
 use Rattle.model.specs.State.{State, Outcome}
-use Rattle.model.specs.Refusals.{refuse}
+use Rattle.model.specs.Choice.{refuse}
 use Rattle.model.specs.Steps.{Step, Name, refusals, effect, refused}
 use Rattle.model.proofs.Refusals.{Passed, unless-refused}
 use Rattle.demands.specs.Log.{Account, saidBy}

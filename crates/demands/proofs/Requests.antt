@@ -9,16 +9,17 @@ use lib.Dec.{T}
 use Rattle.model.specs.declared.Answer.the-variants.{Refused, Done}
 use Rattle.model.specs.Arena.{fill}
 use Rattle.model.specs.State.{State, number, value, Outcome, outcome, numberOf01, Answered, fresh}
-use Rattle.model.specs.Refusals.{Refusal, _if_, refuse}
+use Rattle.model.specs.Choice.{Refusal, _if_, refuse}
 use Rattle.model.specs.Rules.{firstBroken}
-use Rattle.model.specs.Steps.{Step, nameOf, refusals, effect, refused, act, wrongSize, callRefusals, freshCall, auditCall, fillCall}
-use Rattle.model.specs.Steps.{stepCall, Ran, ran, oneByOne, stepsOf, runCall}
-use Rattle.model.proofs.Choice.{both-hold}
-use Rattle.model.proofs.Refusals.{Passed, numbers, rising, by-refusals, unless-refused, refuse-map, refuse-after, passed-after}
+use Rattle.model.specs.Steps.{Step, nameOf, effect, refused, act, wrongSize, callRefusals, freshCall, auditCall, fillCall, stepCall, Ran, ran}
+use Rattle.model.specs.Steps.{oneByOne, stepsOf, runRefusals, runCall}
+use Rattle.model.specs.Table.{table}
+use Rattle.model.proofs.Refusals.{Passed, rising, by-refusals, unless-refused, refuse-map, refuse-after, passed-after}
 use Rattle.model.proofs.Refusals.{lowest-is-given, given-applies}
-use Rattle.model.proofs.Answered.{effect-accepted, lines-tabled, answered, fresh-answered, fill-answered, audit-answered}
+use Rattle.model.proofs.Answered.{effect-accepted, answered, fresh-answered, fill-answered, audit-answered}
+use Rattle.model.proofs.Tabled.{act-tabled}
 use Rattle.model.proofs.Calls.{ran-done}
-use Rattle.demands.specs.Promises.{stepRefusals, runRefusals, LowestGiven, Request, RunRequest, Demand1}
+use Rattle.demands.specs.Promises.{stepRefusals, LowestGiven, Request, RunRequest, Demand1}
 
 -- l are the lines that are asked, k the number of what is accepted
 lowest-given : (l : List Refusal) (k : ℕ) → T (rising l) → (Passed l → 20 ≤ k) → LowestGiven l (refuse l (λ i. i) k)
@@ -29,8 +30,8 @@ module _ (s : State) where
       → Request s l (refuse l (refused s) o)
   request l o t h a =
       record {
-        answered = a;
-        given = rw (refuse-map (λ (x : Outcome). number (x .answer)) l (refused s) o) (lowest-given l (number (o .answer)) t h);
+        kept = a;
+        lowest = rw (refuse-map (λ (x : Outcome). number (x .answer)) l (refused s) o) (lowest-given l (number (o .answer)) t h);
       }
 
   fresh-request : Request s (1 if wrongSize s ∷ []) (freshCall s)
@@ -45,18 +46,18 @@ module _ (s : State) where
   unfolding fillCall
   fill-request = request (callRefusals s) (outcome (Done (fill (s .control .map))) s) tt (λ _. omega arith) (fill-answered s)
 
-  -- a step asks the lines of its name after those of every call
+  -- a step asks the table's lines after those of every call
   asks-all : (t : Step) → stepCall s t ≡ refuse (stepRefusals s t) (refused s) (effect (nameOf t) s t)
-  unfolding stepCall act
-  asks-all t = refuse-after (callRefusals s) (refusals (nameOf t) s t) (refused s) (effect (nameOf t) s t)
+  unfolding stepCall
+  asks-all t =
+      rw (act-tabled s t) (refuse-after (callRefusals s) (table s t (nameOf t)) (refused s) (effect (nameOf t) s t))
 
   step-request : (t : Step) → Request s (stepRefusals s t) (stepCall s t)
   step-request t =
-      let l : List Refusal = refusals (nameOf t) s t in
       rw (asks-all t)
-      (request (stepRefusals s t) (effect (nameOf t) s t)
-      (both-hold (numbers numberOf01 l) (rising (callRefusals s ++ l)) (lines-tabled s t (nameOf t)) .1)
-      (λ p. effect-accepted s t (nameOf t) (passed-after (callRefusals s) l p) .from) (rw (asks-all t) at (answered s t)))
+      (request (stepRefusals s t) (effect (nameOf t) s t) tt
+      (λ p. effect-accepted s t (nameOf t) (passed-after (callRefusals s) (table s t (nameOf t)) p) .from)
+      (rw (asks-all t) at (answered s t)))
 
   -- the steps of a run that is not refused are done, and the run answers 30
   run-request : (ws slots : List ℕ) → RunRequest s (runRefusals s ws slots) slots (runCall s ws slots)
@@ -72,7 +73,7 @@ module _ (s : State) where
             unless-refused
             (λ (r : Ran). number (r .answer) < 20 → (value (r .answer) ≡ 0) × ((r .slots ≡ slots) × (r .next ≡ s))) l f o
             (λ n _. (refl, (refl, refl))) (λ _ h. absurd (omega (arith, ap number done)));
-        given =
+        lowest =
             rw (refuse-map (λ (r : Ran). number (r .answer)) l f o)
             (lowest-given l (number (o .answer)) tt (λ _. omega (arith, ap number done)));
       }

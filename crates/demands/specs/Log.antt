@@ -71,6 +71,7 @@ newClient = record { opened = λ h. none; pending = noAccess }
 abbrev pub newAccount : Account
 newAccount = record { lastWritten = λ m w. 0; kind = λ m. 0; clients = λ i. newClient }
 
+-- of a client's step; nothing is asked of the keeper's
 abbrev pub clientOf : Account → Step → Client
 clientOf g t = g .clients (pred (t .who))
 

@@ -1,7 +1,7 @@
 -- What is promised, in 01's words: demand 1 of any memory, demands 2 and 3 of every history, that is of any steps from fresh with what the
 -- library answers to each, and what is kept of every sound state. No word of the arena, and no invariant, stands here.
 use mathlib.Core.Path.{_≡_}
-use mathlib.Core.Bool.{true, not}
+use mathlib.Core.Bool.{true}
 use mathlib.Core.List.{List, [], _∷_, _++_}
 use Prim.Native.Nat.{ℕ, suc, _+_, _*_, _≤_, _<_}
 use lib.ListN.{getD}
@@ -9,21 +9,18 @@ use Rattle.model.specs.declared.Access.the-variants.{Read, Write}
 use Rattle.model.specs.Arena.{words}
 use Rattle.model.specs.Rows.{freshRow}
 use Rattle.model.specs.State.{State, number, value, Outcome, Sizes, numberOf01, Answered}
-use Rattle.model.specs.Refusals.{Refusal, _if_, applies}
-use Rattle.model.specs.Steps.{Step, nameOf, refusals, act, wrongSize, unsound, callRefusals, freshCall, auditCall, fillCall, stepCall, Ran}
-use Rattle.model.specs.Steps.{runCall, runSizes, oneByOne, stepsOf}
+use Rattle.model.specs.Choice.{Refusal, _if_, applies}
+use Rattle.model.specs.Steps.{Step, nameOf, act, wrongSize, callRefusals, freshCall, auditCall, fillCall, stepCall, Ran, runSizes}
+use Rattle.model.specs.Steps.{runRefusals, runCall, oneByOne, stepsOf}
+use Rattle.model.specs.Table.{table}
 use Rattle.model.specs.Rules.{firstBroken}
 use Rattle.demands.specs.Log.{Line, Log, reachedBy, historyBy, Pending, noAccess, accessTo, Account, clientOf, said, answered}
 use Rattle.demands.specs.Log.{answeredTo, workingSteps, lastMoved, ownAnswers}
 
 -- Demand 1. "Every request, on memory of any contents, ends with an answer. A bad one gets the refusal number that the specification
--- names; control record, arena and client table stay as they were." Every line of the refusal table that speaks of a step:
+-- names; control record, arena and client table stay as they were." The whole table of refusals, for a step:
 abbrev pub stepRefusals : State → Step → List Refusal
-stepRefusals s t = callRefusals s ++ refusals (nameOf t) s t
-
--- .. and of a run
-abbrev pub runRefusals : State → List ℕ → List ℕ → List Refusal
-runRefusals s ws slots = 1 if wrongSize s ∷ 1 if not (runSizes ws slots) ∷ 2 if unsound s ∷ []
+stepRefusals s t = callRefusals s ++ table s t (nameOf t)
 
 -- "The lowest number that applies is given, and none is given otherwise.": n is the answer's, below 20 a refusal's
 pub record LowestGiven (lines : List Refusal) (n : ℕ) : Type 0 where
@@ -32,14 +29,14 @@ pub record LowestGiven (lines : List Refusal) (n : ℕ) : Type 0 where
 
 -- a request on state s that these lines speak of
 pub record Request (s : State) (lines : List Refusal) (o : Outcome) : Type 0 where
-  pub answered : Answered s o
-  pub given : LowestGiven lines (number (o .answer))
+  pub kept : Answered s o
+  pub lowest : LowestGiven lines (number (o .answer))
 
 -- "1 or 2 refuses the whole run and writes no answers"
 pub record RunRequest (s : State) (lines : List Refusal) (slots : List ℕ) (r : Ran) : Type 0 where
   pub tabled : numberOf01 (number (r .answer)) ≡ true
   pub unchanged : number (r .answer) < 20 → (value (r .answer) ≡ 0) × ((r .slots ≡ slots) × (r .next ≡ s))
-  pub given : LowestGiven lines (number (r .answer))
+  pub lowest : LowestGiven lines (number (r .answer))
 
 -- "Of refusals fresh and audit can give only 1, fill 1 and 2."
 pub record EveryRequest (s : State) : Type 0 where

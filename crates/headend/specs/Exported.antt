@@ -7,9 +7,8 @@ use lib.Dec.{eqb, leb}
 use lib.ListN.{length}
 use Rattle.model.specs.declared.Answer.{Answer}
 use Rattle.model.specs.declared.Answer.the-variants.{Refused}
-use Rattle.model.specs.Choice.{pick, _and_}
+use Rattle.model.specs.Choice.{pick, _and_, _if_, refuse}
 use Rattle.model.specs.State.{State, Outcome, number, value}
-use Rattle.model.specs.Refusals.{_if_, refuse}
 use Rattle.model.specs.Steps.{Step, refused, freshCall, stepCall, fillCall, auditCall, runCall, Ran, ran}
 use Rattle.wire.specs.Bytes.{numbers, allBytes}
 use Rattle.archive.specs.Does.{isRefused}

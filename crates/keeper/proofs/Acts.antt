@@ -3,10 +3,10 @@
 use mathlib.Core.Path.{_≡_, sym, ap₂, _∙_}
 use mathlib.Core.List.{List}
 use Prim.Native.Nat.{ℕ}
-use Rattle.model.specs.Choice.{any}
+use Rattle.model.specs.Choice.{any, Refusal}
 use Rattle.model.specs.Arena.{cells, start, cellsAt, newRecord, laid, lowestRun}
 use Rattle.model.specs.State.{entry, State, state, Outcome, outcome}
-use Rattle.model.specs.Refusals.{Refusal, holdsCell, admitRefusals, beginRefusals, retireRefusals}
+use Rattle.model.specs.Refusals.{holdsCell, admitRefusals, beginRefusals, retireRefusals}
 use Rattle.model.specs.Steps.{Step, ADMIT, RETIRE, BEGIN, nameOf, act}
 use Rattle.model.proofs.Refusals.{refuse-map}
 use Rattle.mover.specs.declared.Kept.{Kept}

@@ -9,7 +9,8 @@ use borrow.Author.Tests.{eq-eqb, ne-eqb, le-leb, lt-leb, ltb-false}
 use Rattle.model.specs.declared.Control.{Control}
 use Rattle.model.specs.Arena.{cells, none, cellsAt, lowestRun}
 use Rattle.model.specs.State.{entry}
-use Rattle.model.specs.Refusals.{_if_, refuse, given, isNone, admitRefusals}
+use Rattle.model.specs.Choice.{_if_, refuse, given}
+use Rattle.model.specs.Refusals.{isNone, admitRefusals}
 use Rattle.model.proofs.Refusals.{refused-by-given, none-given, accepted-by-given}
 use Rattle.keeper.specs.Kept.{refusedKept, recordRefusals, newRefusals, retiredKept, retireStep, begunKept, beginStep}
 

@@ -9,7 +9,8 @@ use Rattle.model.specs.declared.Answer.the-variants.{Refused, Admitted, Begun, 
 use Rattle.model.specs.Arena.{cells, none, start, place, flagged, cellsAt, newRecord, laid, lowestRun}
 use Rattle.model.specs.State.{stageOf, inHand, withMove, withBegun, rise, entry}
 use Rattle.model.specs.KeeperSteps.{taken, freed, withEntry, firstMove}
-use Rattle.model.specs.Refusals.{Refusal, _if_, refuse, badMeter, badKind, isNone, admitRefusals, beginRefusals}
+use Rattle.model.specs.Choice.{Refusal, _if_, refuse}
+use Rattle.model.specs.Refusals.{badMeter, badKind, isNone, admitRefusals, beginRefusals}
 use Rattle.mover.specs.declared.Kept.{Kept}
 use Rattle.mover.specs.Kept.{kept}
 

@@ -4,7 +4,7 @@ ghost use mathlib.Core.Path.{_≡_};
 ghost use lib.ListN.{length};
 ghost use Rattle.model.specs.State.{stageOf, inHand};
 ghost use Rattle.model.specs.KeeperSteps.{firstMove};
-ghost use Rattle.model.specs.Refusals.{given};
+ghost use Rattle.model.specs.Choice.{given};
 ghost use Rattle.keeper.specs.Kept.{refusedKept, recordRefusals, newRefusals, retireStep, beginStep, admitStep, admitArena};
 use directory::entry_of;
 use directory::set_entry;

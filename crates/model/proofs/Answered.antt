@@ -13,21 +13,22 @@ use Rattle.model.specs.declared.Access.the-variants.{Read, Write}
 use Rattle.model.specs.declared.Stepped.{Stepped}
 use Rattle.model.specs.declared.Answer.{Answer}
 use Rattle.model.specs.declared.Answer.the-variants.{Done}
-use Rattle.model.specs.Choice.{_and_}
+use Rattle.model.specs.Choice.{_and_, Refusal, _if_, refuse}
 use Rattle.model.specs.Arena.{header, flagged, flagOf, wordsAt, fill}
 use Rattle.model.specs.Rows.{busy, hold, allPassed}
 use Rattle.model.specs.State.{Stage, idle, firstBarrier, copying, secondBarrier, thirdBarrier, stageOf, inHand, rise, State}
 use Rattle.model.specs.State.{Outcome, outcome, number, numberOf01, Answered, fresh}
 use Rattle.model.specs.ClientSteps.{atHeader, swap, go}
 use Rattle.model.specs.KeeperSteps.{moveOf, barrier, copyWord, settle, advance}
-use Rattle.model.specs.Refusals.{Refusal, _if_, refuse}
 use Rattle.model.specs.Steps.{Step, Name, ADMIT, RETIRE, BEGIN, ADVANCE, ATTACH, DETACH, OPEN, DROP, READ, WRITE, GO, REST, UNKNOWN}
-use Rattle.model.specs.Steps.{NOBODY, nameOf, ownRow, refusals, effect, refused, act, wrongSize, callRefusals, freshCall, auditCall}
+use Rattle.model.specs.Steps.{NOBODY, nameOf, ownRow, effect, refused, act, wrongSize, callRefusals, freshCall, auditCall}
 use Rattle.model.specs.Steps.{fillCall, stepCall}
+use Rattle.model.specs.Table.{table}
 use Rattle.model.specs.Rules.{firstBroken}
-use Rattle.model.proofs.Choice.{by-test, clash, both-hold}
+use Rattle.model.proofs.Choice.{by-test, clash}
 use Rattle.model.proofs.Says.{says-holds}
-use Rattle.model.proofs.Refusals.{Passed, numbers, rising, each, by-refusals}
+use Rattle.model.proofs.Refusals.{Passed, numbers, each, by-refusals}
+use Rattle.model.proofs.Tabled.{act-tabled}
 
 -- the answer is one of 01's that are no refusals
 pub record Accepted (x : Answer) : Type 0 where
@@ -80,11 +81,12 @@ module _ (s : State) (t : Step) where
   by-phase (Ready c (Write h w v)) n = accepted _ tt tt
   by-phase (Waiting c x) n = by-test Sits (eqb (header (s .arena) c) (flagged c)) (λ _. accepted _ tt tt) (λ _. accepted _ tt tt)
 
-  pub effect-accepted : (n : Name) → Passed (refusals n s t) → Ok (effect n s t)
+  -- of the table's lines that were passed, ADVANCE's and GO's 9 and lines 3 and 4 matter
+  pub effect-accepted : (n : Name) → Passed (table s t n) → Ok (effect n s t)
   effect-accepted ADMIT p = accepted _ tt tt
   effect-accepted RETIRE p = accepted _ tt tt
   effect-accepted BEGIN p = accepted _ tt tt
-  effect-accepted ADVANCE p = by-stage (stageOf (moveOf s .stage)) (p .0)
+  effect-accepted ADVANCE p = by-stage (stageOf (moveOf s .stage)) (p .1 .1 .1 .1 .1 .1 .1 .1 .1 .1 .1 .0)
   effect-accepted ATTACH p = accepted _ tt tt
   effect-accepted DETACH p = accepted _ tt tt
   effect-accepted OPEN p = accepted _ tt tt
@@ -92,34 +94,16 @@ module _ (s : State) (t : Step) where
   effect-accepted READ p = by-access (Read (t .a) (t .b)) (hold (ownRow s t) (t .a)) (header (s .arena) (hold (ownRow s t) (t .a)))
   effect-accepted WRITE p =
       by-access (Write (t .a) (t .b) (t .v)) (hold (ownRow s t) (t .a)) (header (s .arena) (hold (ownRow s t) (t .a)))
-  effect-accepted GO p = by-phase (ownRow s t .phase) (p .1 .0)
+  effect-accepted GO p = by-phase (ownRow s t .phase) (p .1 .1 .1 .1 .1 .1 .1 .1 .1 .1 .0)
   effect-accepted REST p = accepted _ tt tt
-  effect-accepted UNKNOWN p = clash true refl (p .0)
+  effect-accepted UNKNOWN p = clash true refl (p .1 .0)
   effect-accepted NOBODY p = clash true refl (p .0)
 
-  -- the lines of a step have 01's numbers, and rise
-  pub lines-tabled : (n : Name) → T (numbers numberOf01 (refusals n s t) and rising (callRefusals s ++ refusals n s t))
-  lines-tabled ADMIT = tt
-  lines-tabled RETIRE = tt
-  lines-tabled BEGIN = tt
-  lines-tabled ADVANCE = tt
-  lines-tabled ATTACH = tt
-  lines-tabled DETACH = tt
-  lines-tabled OPEN = tt
-  lines-tabled DROP = tt
-  lines-tabled READ = tt
-  lines-tabled WRITE = tt
-  lines-tabled GO = tt
-  lines-tabled REST = tt
-  lines-tabled UNKNOWN = tt
-  lines-tabled NOBODY = tt
-
   act-answered : Answered s (act s t)
-  unfolding act
   act-answered =
-      let l : List Refusal = refusals (nameOf t) s t in
-      unless s l (effect (nameOf t) s t) (both-hold (numbers numberOf01 l) (rising (callRefusals s ++ l)) (lines-tabled (nameOf t)) .0)
-      (λ p. as-accepted s (effect (nameOf t) s t) (effect-accepted (nameOf t) p))
+      rw (act-tabled s t)
+      (unless s (table s t (nameOf t)) (effect (nameOf t) s t) tt
+      (λ p. as-accepted s (effect (nameOf t) s t) (effect-accepted (nameOf t) p)))
 
   -- every step, on memory of any contents
   pub answered : Answered s (stepCall s t)

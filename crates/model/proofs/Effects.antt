@@ -11,7 +11,6 @@ use borrow.Author.Tests.{eq-eqb, ne-eqb}
 use Rattle.model.specs.declared.Access.{Access}
 use Rattle.model.specs.declared.Phase.the-variants.{Ready}
 use Rattle.model.specs.declared.Row.{Row}
-use Rattle.model.specs.declared.Move.{Move}
 use Rattle.model.specs.Arena.{place, word, header, plain, flagged, targetOf, wordsAt}
 use Rattle.model.specs.State.{rise, State, told, Outcome}
 use Rattle.model.specs.ClientSteps.{swap, changed}

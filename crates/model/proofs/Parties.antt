@@ -11,25 +11,9 @@ use borrow.Author.Tests.{eqb-true, ltb-true, lt-ltb, le-ltb, leb-true}
 use Rattle.model.specs.Choice.{pick, _and_, every, all}
 use Rattle.model.specs.Steps.{Name, ADMIT, RETIRE, BEGIN, ADVANCE, ATTACH, DETACH, OPEN, DROP, READ, WRITE, GO, REST, UNKNOWN}
 use Rattle.model.specs.Steps.{NOBODY, keeperCodes, clientCodes, named}
+use Rattle.model.specs.Table.{codeOf}
 use Rattle.model.proofs.Choice.{order, clash, by-test, and-parts}
 use Rattle.model.proofs.Says.{says-isnt, says-all, all-get, every-at}
-
--- 01's code of each step; no code is 18 or 19
-abbrev pub codeOf : Name → ℕ
-codeOf ADMIT = 1
-codeOf RETIRE = 2
-codeOf BEGIN = 3
-codeOf ADVANCE = 4
-codeOf ATTACH = 10
-codeOf DETACH = 11
-codeOf OPEN = 12
-codeOf DROP = 13
-codeOf READ = 14
-codeOf WRITE = 15
-codeOf GO = 16
-codeOf REST = 17
-codeOf UNKNOWN = 18
-codeOf NOBODY = 19
 
 abbrev pub ofKeeper : Name → Bool
 ofKeeper n = leb (codeOf n) 4

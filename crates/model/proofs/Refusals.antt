@@ -7,8 +7,7 @@ use Prim.Native.Nat.{ℕ, _≤_, _<_}
 use native.Mathlib.Omega.{arith}
 use lib.Dec.{T, eqb, ltb, leb}
 use borrow.Author.Tests.{eqb-true, eq-eqb, leb-true, ltb-true}
-use Rattle.model.specs.Choice.{pick, _and_, _or_}
-use Rattle.model.specs.Refusals.{Refusal, refuse, given, applies}
+use Rattle.model.specs.Choice.{pick, _and_, _or_, Refusal, refuse, given, applies}
 use Rattle.model.proofs.Choice.{by-test, clash, and-parts, and-no, pick-map}
 
 -- no line applies

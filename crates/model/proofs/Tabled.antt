@@ -1,77 +1,24 @@
--- The refusal table as 01 prints it, line by line over all steps: a step is refused just as it says. Then what its lines 12 and 13 say of
--- the map. Assumes nothing.
+-- A step is refused just as the table of specs/Table says. Then what its lines 12 and 13 say of the map. Assumes nothing.
 use mathlib.Core.Path.{_≡_, refl}
 use mathlib.Core.Logic.{⊎-elim}
-use mathlib.Core.Bool.{Bool, not}
-use mathlib.Core.List.{List, [], _∷_}
+use mathlib.Core.List.{List}
 use Prim.Native.Nat.{ℕ, _≤_, _<_}
 use native.Mathlib.Omega.{arith}
-use lib.Dec.{T, eqb, ltb, leb}
-use Rattle.model.specs.declared.Row.{Row}
-use Rattle.model.specs.declared.Control.{Control}
-use Rattle.model.specs.Choice.{_and_, any}
-use Rattle.model.specs.Arena.{cells, cellsAt, payloadAt, lowestRun}
-use Rattle.model.specs.Rows.{busy, hold}
-use Rattle.model.specs.State.{stageOf, inHand, entry, State}
-use Rattle.model.specs.Refusals.{Refusal, _if_, refuse}
+use lib.Dec.{T, eqb, leb}
+use Rattle.model.specs.Choice.{refuse}
+use Rattle.model.specs.Arena.{lowestRun}
+use Rattle.model.specs.State.{State}
 use Rattle.model.specs.Steps.{Step, Name, ADMIT, RETIRE, BEGIN, ADVANCE, ATTACH, DETACH, OPEN, DROP, READ, WRITE, GO, REST, UNKNOWN}
-use Rattle.model.specs.Steps.{NOBODY, nameOf, ownRow, refusals, effect, refused, act}
+use Rattle.model.specs.Steps.{NOBODY, nameOf, refusals, effect, refused, act}
+use Rattle.model.specs.Table.{table}
 use Rattle.model.proofs.Choice.{order}
 use Rattle.model.proofs.Says.{Says, says-as, says-eq, says-le}
 use Rattle.model.proofs.CellMap.{FreeRun, IsLowest, nowhere, found, lowest-is-lowest}
 use Rattle.model.proofs.Refusals.{rising}
-use Rattle.model.proofs.Parties.{codeOf}
-
--- the step is one of these
-abbrev among : List Name → Name → Bool
-among l n = any (λ m. eqb (codeOf n) (codeOf m)) l
 
 module _ (s : State) (t : Step) where
-  abbrev c : Control
-  c = s .control
-
-  abbrev row : Row
-  row = ownRow s t
-
-  -- the entry of meter a, and the cell that hold a has
-  abbrev here : ℕ
-  here = entry (c .dir) (t .a)
-
-  abbrev held : ℕ
-  held = hold row (t .a)
-
-  abbrev moving : Bool
-  moving = inHand (stageOf (c .mv .stage))
-
-  abbrev holds : Row → Bool
-  holds r = any (eqb here) (r .holds)
-
-  -- the table from line 3 on; the meter is number a, the kind b, the hold a or, of OPEN, b, and the word b
-  abbrev pub table : Name → List Refusal
-  table n =
-      3 if among (NOBODY ∷ []) n
-      ∷ 4 if among (UNKNOWN ∷ []) n
-      ∷ 5 if (among (ADMIT ∷ RETIRE ∷ BEGIN ∷ OPEN ∷ []) n and ltb 255 (t .a))
-      ∷ 5 if (among (ADMIT ∷ OPEN ∷ []) n and ltb 3 (t .b))
-      ∷ 5 if (among (DROP ∷ READ ∷ WRITE ∷ []) n and ltb 3 (t .a))
-      ∷ 6 if (among (DETACH ∷ OPEN ∷ DROP ∷ READ ∷ WRITE ∷ GO ∷ REST ∷ []) n and not (row .attached))
-      ∷ 7 if (among (ATTACH ∷ []) n and row .attached)
-      ∷ 7 if (among (ADMIT ∷ []) n and not (eqb here 65535))
-      ∷ 8 if (among (DETACH ∷ OPEN ∷ DROP ∷ READ ∷ WRITE ∷ REST ∷ []) n and busy (row .phase))
-      ∷ 8 if (among (RETIRE ∷ BEGIN ∷ []) n and moving)
-      ∷ 9 if (among (GO ∷ []) n and not (busy (row .phase)))
-      ∷ 9 if (among (ADVANCE ∷ []) n and not moving)
-      ∷ 10 if (among (RETIRE ∷ BEGIN ∷ OPEN ∷ []) n and eqb here 65535)
-      ∷ 10 if (among (READ ∷ WRITE ∷ DROP ∷ []) n and eqb held 65535)
-      ∷ 11 if (among (RETIRE ∷ []) n and any holds (s .table))
-      ∷ 12 if (among (ADMIT ∷ []) n and eqb (lowestRun (c .map) (cells (t .b))) 65535)
-      ∷ 13 if (among (BEGIN ∷ []) n and leb here (lowestRun (c .map) (cellsAt (s .arena) here)))
-      ∷ 14 if (among (READ ∷ WRITE ∷ []) n and leb (payloadAt (s .arena) held) (t .b))
-      ∷ 15 if (among (BEGIN ∷ []) n and eqb (c .begun) 4294967295)
-      ∷ []
-
   -- what a step is refused by, or that it is accepted, is what the table says
-  pub as-tabled : {A : Type 0} (n : Name) (f : ℕ → A) (o : A) → refuse (refusals n s t) f o ≡ refuse (table n) f o
+  pub as-tabled : {A : Type 0} (n : Name) (f : ℕ → A) (o : A) → refuse (refusals n s t) f o ≡ refuse (table s t n) f o
   as-tabled ADMIT f o = refl
   as-tabled RETIRE f o = refl
   as-tabled BEGIN f o = refl
@@ -87,12 +34,12 @@ module _ (s : State) (t : Step) where
   as-tabled UNKNOWN f o = refl
   as-tabled NOBODY f o = refl
 
-  pub act-tabled : act s t ≡ refuse (table (nameOf t)) (refused s) (effect (nameOf t) s t)
+  pub act-tabled : act s t ≡ refuse (table s t (nameOf t)) (refused s) (effect (nameOf t) s t)
   unfolding act
   act-tabled = as-tabled (nameOf t) (refused s) (effect (nameOf t) s t)
 
   -- its numbers rise, so the first line that applies is the lowest
-  pub table-rises : (n : Name) → T (rising (table n))
+  pub table-rises : (n : Name) → T (rising (table s t n))
   table-rises n = tt
 
 -- 12 "no free run of that length exists"

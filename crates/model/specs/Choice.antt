@@ -1,8 +1,10 @@
--- How the definitions choose and test. `eqb`, `ltb` and `leb` of the language's library test =, < and ≤ on numbers.
+-- How the definitions choose, test, sum and refuse. `eqb`, `ltb` and `leb` of the language's library test =, < and ≤ on numbers.
 use mathlib.Core.Bool.{Bool, true, false}
 use mathlib.Core.List.{List, [], _∷_}
 use Prim.Native.Nat.{ℕ, zero, suc, _+_}
+use lib.Dec.{eqb}
 
+infix 70 _if_
 infixr 35 _and_
 infixr 30 _or_
 infixr 25 _⇒_
@@ -52,3 +54,24 @@ All P (x ∷ l) = P x × All P l
 abbrev pub total : {A : Type 0} → (A → ℕ) → List A → ℕ
 total f [] = 0
 total f (x ∷ l) = f x + total f l
+
+-- a line of a table of refusals: the number, and whether it applies
+abbrev pub Refusal : Type 0
+Refusal = ℕ × Bool
+
+abbrev pub _if_ : ℕ → Bool → Refusal
+n if applies = (n, applies)
+
+-- the first that applies is given; the lines stand in rising order, so it is the lowest
+abbrev pub refuse : {A : Type 0} → List Refusal → (ℕ → A) → A → A
+refuse [] refused accepted = accepted
+refuse (g ∷ l) refused accepted = pick (g .1) (refused (g .0)) (refuse l refused accepted)
+
+-- the number that is given, or 0
+abbrev pub given : List Refusal → ℕ
+given l = refuse l (λ n. n) 0
+
+-- a line of number n applies
+abbrev pub applies : ℕ → List Refusal → Bool
+applies n [] = false
+applies n (g ∷ l) = (eqb (g .0) n and g .1) or applies n l

@@ -7,3 +7,4 @@ pub mod ClientSteps
 pub mod Refusals
 pub mod Rules
 pub mod Steps
+pub mod Table

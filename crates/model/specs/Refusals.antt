@@ -1,36 +1,15 @@
--- 01, "Numbers of refusal": "The lowest number that applies is given, and none is given otherwise."
-use mathlib.Core.Bool.{Bool, false, not}
+-- 01, "Numbers of refusal", step by step: of the table's lines those that speak of the step, in rising order. That each step is refused just
+-- as the table of specs/Table says is proved in proofs/Tabled.
+use mathlib.Core.Bool.{Bool, not}
 use mathlib.Core.List.{List, [], _∷_}
 use Prim.Native.Nat.{ℕ}
 use lib.Dec.{eqb, ltb, leb}
 use Rattle.model.specs.declared.Row.{Row}
 use Rattle.model.specs.declared.Control.{Control}
-use Rattle.model.specs.Choice.{pick, _and_, _or_, any}
+use Rattle.model.specs.Choice.{any, Refusal, _if_}
 use Rattle.model.specs.Arena.{cells, none, cellsAt, payloadAt, lowestRun}
 use Rattle.model.specs.Rows.{hold, busy}
 use Rattle.model.specs.State.{stageOf, inHand, entry}
-
-infix 70 _if_
--- a line of the table: the number, and whether it applies
-abbrev pub Refusal : Type 0
-Refusal = ℕ × Bool
-
-abbrev pub _if_ : ℕ → Bool → Refusal
-n if applies = (n, applies)
-
--- the first that applies is given; the lines stand in rising order, so it is the lowest
-abbrev pub refuse : {A : Type 0} → List Refusal → (ℕ → A) → A → A
-refuse [] refused accepted = accepted
-refuse (g ∷ l) refused accepted = pick (g .1) (refused (g .0)) (refuse l refused accepted)
-
--- the number that is given, or 0
-abbrev pub given : List Refusal → ℕ
-given l = refuse l (λ n. n) 0
-
--- a line of number n applies
-abbrev pub applies : ℕ → List Refusal → Bool
-applies n [] = false
-applies n (g ∷ l) = (eqb (g .0) n and g .1) or applies n l
 
 -- 5 "meter above 255, kind above 3 or hold above 3, in a number the step uses"
 abbrev pub badMeter : ℕ → Bool

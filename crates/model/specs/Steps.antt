@@ -9,12 +9,12 @@ use Rattle.model.specs.declared.Row.{Row}
 use Rattle.model.specs.declared.Answer.{Answer}
 use Rattle.model.specs.declared.Answer.the-variants.{Refused, Done}
 use Rattle.model.specs.declared.Stepped.{Stepped}
-use Rattle.model.specs.Choice.{pick, _and_}
+use Rattle.model.specs.Choice.{pick, _and_, Refusal, _if_, refuse}
 use Rattle.model.specs.Arena.{cells, cellsAt, lowestRun, fill}
 use Rattle.model.specs.State.{stageOf, entry, State, withArena, withRow, rowOf, Outcome, outcome, number, value, fresh}
 use Rattle.model.specs.KeeperSteps.{moveOf, admit, retire, begin, advance}
 use Rattle.model.specs.ClientSteps.{attach, detach, openHold, dropHold, loadHeader, go, rest, changed}
-use Rattle.model.specs.Refusals.{Refusal, _if_, refuse, admitRefusals, retireRefusals, beginRefusals, advanceRefusals, attachRefusals}
+use Rattle.model.specs.Refusals.{admitRefusals, retireRefusals, beginRefusals, advanceRefusals, attachRefusals}
 use Rattle.model.specs.Refusals.{restRefusals, openRefusals, dropRefusals, accessRefusals, goRefusals}
 use Rattle.model.specs.Rules.{firstBroken}
 
@@ -162,8 +162,10 @@ stepsOf ws = stepsFrom ws 0 (length ws / 5)
 unfoldable pub runSizes : List ℕ → List ℕ → Bool
 runSizes ws slots = leb (length ws) 20480 and eqb (length ws % 5) 0 and eqb (length slots) (2 * (length ws / 5))
 
+-- what a run may be refused by
+abbrev pub runRefusals : State → List ℕ → List ℕ → List Refusal
+runRefusals s ws slots = 1 if wrongSize s ∷ 1 if not (runSizes ws slots) ∷ 2 if unsound s ∷ []
+
 -- "checks soundness once"; "1 or 2 refuses the whole run and writes no answers"; "A run of no steps still gives 2 on an unsound state."
 unfoldable pub runCall : State → List ℕ → List ℕ → Ran
-runCall s ws slots =
-    refuse (1 if wrongSize s ∷ 1 if not (runSizes ws slots) ∷ 2 if unsound s ∷ []) (λ n. ran (Refused n) slots s)
-    (oneByOne act s (stepsOf ws))
+runCall s ws slots = refuse (runRefusals s ws slots) (λ n. ran (Refused n) slots s) (oneByOne act s (stepsOf ws))

@@ -8,14 +8,13 @@ use lib.Dec.{eqb}
 use Rattle.model.specs.declared.Row.{Row}
 use Rattle.model.specs.declared.Control.{Control}
 use Rattle.model.specs.declared.Answer.the-variants.{BarrierOpen}
-use Rattle.model.specs.Choice.{pick}
+use Rattle.model.specs.Choice.{pick, refuse}
 use Rattle.model.specs.Arena.{header, flagged, wordsAt}
 use Rattle.model.specs.Rows.{clearMarks, allPassed}
 use Rattle.model.specs.State.{Stage, idle, firstBarrier, copying, secondBarrier, thirdBarrier, stageOf, inHand, rise, State}
 use Rattle.model.specs.State.{state, Outcome, outcome}
 use Rattle.model.specs.ClientSteps.{changed}
 use Rattle.model.specs.KeeperSteps.{moveOf, barrier, startCopying, copyWord, settle, advance}
-use Rattle.model.specs.Refusals.{refuse}
 use Rattle.model.specs.Steps.{Step, Name, ADVANCE, nameOf, refusals, effect, refused, act}
 use Rattle.model.proofs.Choice.{pick-map}
 use Rattle.mover.specs.declared.Moved.{Moved}

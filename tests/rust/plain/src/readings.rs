@@ -23,12 +23,11 @@ pub struct Reading {
     pub other: u64,
 }
 
-/// A text for replay, with what it prints and, in words, what another reading would do.
+/// A text for replay, and what it prints.
 pub struct TextReading {
     pub name: &'static str,
     pub input: String,
     pub output: String,
-    pub other: &'static str,
 }
 
 const ADVANCE: Step = [0, 4, 0, 0, 0];
@@ -487,85 +486,76 @@ pub fn of_the_steps() -> Vec<Reading> {
 
 /// Readings of the form of replay's input.
 pub fn of_the_texts() -> Vec<TextReading> {
-    let text = |name, input: &str, output: &str, other| TextReading {
+    let text = |name, input: &str, output: &str| TextReading {
         name,
         input: input.to_string(),
         output: output.to_string(),
-        other,
     };
     let nothing = "0\n0\n5\n0\n0\n0\n0\n0\n";
     vec![
-        text(
-            "no admissions and no steps are a file",
-            "0\n0\n",
-            nothing,
-            "bad file 1: a section has a line",
-        ),
+        // Another reading: bad file 1: a section has a line.
+        text("no admissions and no steps are a file", "0\n0\n", nothing),
+        // Another reading: it is read.
         text(
             "a last line without LF is wrong itself",
             "0\n0",
             "bad file 2\n",
-            "it is read",
         ),
+        // Another reading: it is skipped.
         text(
             "an empty line at the end is extra",
             "0\n0\n\n",
             "bad file 3\n",
-            "it is skipped",
         ),
+        // Another reading: bad file 2: the line before them is not the last.
         text(
             "bytes without LF at the end are an extra line",
             "0\n0\nx",
             "bad file 3\n",
-            "bad file 2: the line before them is not the last",
         ),
+        // Another reading: bad file 1.
         text(
             "a missing line is the one after the last",
             "1\n",
             "bad file 2\n",
-            "bad file 1",
         ),
+        // Another reading: bad file 4.
         text(
             "the first bad line is named",
             "2\n1 0\nx\nx\n",
             "bad file 3\n",
-            "bad file 4",
         ),
+        // Another reading: bad file 1, the count.
         text(
             "a count too high makes the next section's count a wrong line",
             "2\n1 0\n0\n",
             "bad file 3\n",
-            "bad file 1, the count",
         ),
+        // Another reading: bad file 2, the count.
         text(
             "a count may be 4294967295, and then a line is missing",
             "0\n4294967295\n0 4 0 0 0\n",
             "bad file 4\n",
-            "bad file 2, the count",
         ),
-        text(
-            "a count has no needless zero",
-            "00\n0\n",
-            "bad file 1\n",
-            "it is read",
-        ),
+        // Another reading: it is read.
+        text("a count has no needless zero", "00\n0\n", "bad file 1\n"),
+        // Another reading: bad file 2.
         text(
             "numbers out of a step's range are no matter of the form",
             "1\n256 4\n1\n9 99 0 0 4294967295\n",
             "1\n5 0\n1\n3 0\n5\n0\n0\n0\n0\n0\n",
-            "bad file 2",
         ),
+        // Another reading: 1 for the whole.
         TextReading {
             name: "more steps than a run may have are run",
             input: format!("0\n4097\n{}", "9 0 0 0 0\n".repeat(4_097)),
             output: format!("0\n4097\n{}5\n0\n0\n0\n0\n0\n", "3 0\n".repeat(4_097)),
-            other: "1 for the whole",
         },
+        // Another reading: bad file 1.
         TextReading {
             name: "too long comes before what is bad",
             input: "x".repeat(65_537),
             output: "too long\n".to_string(),
-            other: "bad file 1",
         },
     ]
 }

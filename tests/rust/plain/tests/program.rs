@@ -51,5 +51,8 @@ fn random_texts() {
             same(&command, &input, &format!("seed {seed}, damage {damage}"));
         }
     }
-    println!("{} texts, each printed as the plain archive prints it", 4 * seeds);
+    println!(
+        "{} texts, each printed as the plain archive prints it",
+        4 * seeds
+    );
 }
