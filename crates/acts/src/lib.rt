@@ -1,5 +1,7 @@
 // One step on what is lent: the control record by value, arena and table as words, a row decoded for its step.
 // Knows nothing of sizes or soundness; on words that mean no rows it is still defined.
+#![tactic(auto)]
+
 ghost use Rattle.std.specs.Prelude.{◌≡◌, length, get_or};
 ghost use Rattle.model.specs.State.{stage_of};
 ghost use Rattle.model.specs.Steps.{keeper_codes, client_codes, UNKNOWN};
@@ -10,14 +12,14 @@ ghost use Rattle.acts.specs.Acts.{client_left, lent, clear_if, kept_turn, keeper
 use model::{Answer, Control, Move, Stepped};
 
 // What ADVANCE on the move alone leaves.
-#[derive(Drop)]
+#[derive(Clone, Copy)]
 pub struct Moving {
     pub mv: Move,
     pub answer: Answer,
 }
 
 // The control record after a step, or after a run of steps, and its last answer.
-#[derive(Drop)]
+#[derive(Clone, Copy)]
 pub struct Turned {
     pub control: Control,
     pub answer: Answer,

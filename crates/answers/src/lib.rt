@@ -1,12 +1,14 @@
 // 01's number and value of an answer.
 // Knows nothing of steps: an answer is told the same whoever gives it.
+#![tactic(auto)]
+
 ghost use Rattle.std.specs.Prelude.{◌≡◌};
 ghost use Rattle.answers.specs.Answers.{told_of, told_as};
 
 use model::Answer;
 
 // An answer as it is told.
-#[derive(Drop)]
+#[derive(Clone, Copy)]
 pub struct Told {
     pub number: u32,
     pub value: u32,

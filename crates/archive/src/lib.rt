@@ -1,5 +1,7 @@
 // The library's calls: fresh, step, run, fill and audit on the control record by value, arena and table as lent words (table: 96).
 // Sizes first, then soundness, once a call; a refused call changes nothing.
+#![tactic(auto)]
+
 ghost use Rattle.std.specs.Prelude.{◌≡◌, length, replicate};
 ghost use Rattle.model.specs.Choice.{given};
 ghost use Rattle.model.specs.Steps.{step, call_refusals, fresh_call, step_call, run_call, fill_call, audit_call, run_sizes};
@@ -8,7 +10,7 @@ ghost use Rattle.archive.specs.Does.{meant, CallDoes, RunDoes, LookDoes, right_s
 use model::{Answer, Control, Move};
 
 // "answer a number and a value too"
-#[derive(Drop)]
+#[derive(Clone, Copy)]
 pub struct Reply {
     pub control: Control,
     pub answer: Answer,

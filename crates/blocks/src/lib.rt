@@ -1,5 +1,7 @@
 // R3 decided: the map of the records' blocks is built by masks, two words a block, and compared with the map by words.
 // Total over any contents; knows nothing of clients, and nothing of the other rules.
+#![tactic(auto)]
+
 ghost use Rattle.std.specs.Prelude.{◌≡◌, ◌<◌, length};
 ghost use Rattle.model.specs.Arena.{cells_at, put_run, IsMap};
 ghost use Rattle.model.specs.State.{stage_of};
@@ -12,7 +14,7 @@ const CELLS: u32 = 1024;
 const METERS: u32 = 256;
 
 // The start and the cells of a block.
-#[derive(Drop)]
+#[derive(Clone, Copy)]
 pub struct Block {
     pub start: u32,
     pub cells: u32,

@@ -1,5 +1,7 @@
 // Control record, arena and client table in one buffer of bytes (docs/LAYOUT.md): decoded and encoded.
 // Knows nothing of calls and refusals: it takes any contents. Each `requires` is a size that the exported calls have tested.
+#![tactic(auto)]
+
 ghost use Rattle.std.specs.Prelude.{◌≡◌, length};
 ghost use Rattle.model.specs.Arena.{laid};
 ghost use Rattle.buffer.specs.Buffer.{move_in, control_in, joined, move_parts, count_parts, control_parts, bytes_in, Decoded};

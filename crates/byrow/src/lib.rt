@@ -1,5 +1,7 @@
 // The calls on eight rows by value: their words are made, `archive` works on them, the rows are read back.
 // The caller says how many rows its table has; of any other number than eight no row is looked at, and they come back as they were.
+#![tactic(auto)]
+
 ghost use Rattle.std.specs.Prelude.{◌≡◌};
 ghost use Rattle.model.specs.Choice.{All};
 ghost use Rattle.model.specs.Rows.{FourHolds};
@@ -14,7 +16,7 @@ use model::{Answer, Control, Row};
 use rows::Eight;
 
 // What a call leaves: the reply, and the rows.
-#[derive(Drop)]
+#[derive(Clone, Copy)]
 pub struct Done {
     pub reply: Reply,
     pub rows: Eight,

@@ -1,5 +1,7 @@
 // The free map, "one bit per cell, set when used": cell c is bit c % 64 of word c / 64. Take, free, count, search.
 // Knows nothing of records: what lies outside the 1,024 cells is free and stays so.
+#![tactic(auto)]
+
 ghost use Rattle.std.specs.Prelude.{◌≡◌, ◌<◌, ◌≤◌};
 ghost use Rattle.model.specs.Arena.{used, put_run, fill, lowest_run, IsMap};
 ghost use Rattle.model.specs.Choice.{one};

@@ -1,5 +1,7 @@
 // The clients' steps, 10 to 17, on one row by value and the arena as it is; the one word that a step may change goes back in its result.
 // Knows nothing of directory, map, move or soundness: every step is total, and equals its turn on every row and arena.
+#![tactic(auto)]
+
 ghost use Rattle.std.specs.Prelude.{◌≡◌, map};
 ghost use Rattle.model.specs.Rows.{access_of, with_phase, with_swaps};
 ghost use Rattle.model.specs.State.{rise};

@@ -1,5 +1,7 @@
 // "a directory of 256 meters, each absent (65535) or a start cell": an entry read and set.
 // Lent, never copied; knows nothing of records; total but for its own length.
+#![tactic(auto)]
+
 ghost use Rattle.std.specs.Prelude.{◌≡◌, length, set};
 ghost use Rattle.model.specs.State.{entry};
 

@@ -1,5 +1,7 @@
 // The exported form for the C head-end: the calls on one buffer of bytes.
 // Decides nothing itself: it has the buffer decoded, calls the archive, and has what an accepted call leaves encoded.
+#![tactic(auto)]
+
 ghost use Rattle.std.specs.Prelude.{◌≡◌, ◌*◌, length};
 ghost use Rattle.model.specs.Steps.{step};
 ghost use Rattle.wire.specs.Bytes.{all_bytes};

@@ -1,5 +1,7 @@
 // ADMIT, RETIRE and BEGIN, and what refuses them: each takes the control record by value and gives it back.
 // Knows nothing of rows: whether some row holds a record is told; the caller clears the marks.
+#![tactic(auto)]
+
 ghost use Rattle.std.specs.Prelude.{◌≡◌, length};
 ghost use Rattle.model.specs.State.{stage_of, in_hand};
 ghost use Rattle.model.specs.KeeperSteps.{first_move};

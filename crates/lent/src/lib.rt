@@ -1,5 +1,7 @@
 // The library's calls over a lent slice of eight row structs: "The client table is lent as eight rows, one for each client".
 // Thin: the rows are taken out by value, `byrow` works on them, and they are put back.
+#![tactic(auto)]
+
 ghost use Rattle.std.specs.Prelude.{◌≡◌};
 ghost use Rattle.model.specs.State.{state};
 ghost use Rattle.model.specs.Steps.{step, fresh_call, step_call, run_call, fill_call, audit_call};

@@ -1,8 +1,10 @@
 // The types of the archive; what they mean is defined in specs/, in the words and order of document 01.
 // Holds no code: every step is written in the crates above and proved equal to the definitions here.
 
+#![tactic(auto)]
+
 // "Four record kinds, by a fixed table": a line of it.
-#[derive(Drop)]
+#[derive(Clone, Copy)]
 pub struct Lengths {
     pub cells: u32,
     pub words: u32,
@@ -10,14 +12,14 @@ pub struct Lengths {
 }
 
 // "The last two carry the access (read or write, hold, word, value), value 0 for a read."
-#[derive(Drop)]
+#[derive(Clone, Copy)]
 pub enum Access {
     Read { hold: u32, word: u32 },
     Write { hold: u32, word: u32, value: u32 },
 }
 
 // "its phase: resting, ready at a cell, or waiting to swap on a record"
-#[derive(Drop)]
+#[derive(Clone, Copy)]
 pub enum Phase {
     Resting,
     Ready(u32, Access),
@@ -25,7 +27,7 @@ pub enum Phase {
 }
 
 // "A row has: attached or not; passed or not; four holds, each empty (65535) or a cell; swaps made (32 bits); and its phase"
-#[derive(Drop)]
+#[derive(Clone, Copy)]
 pub struct Row {
     pub attached: bool,
     pub passed: bool,
@@ -36,7 +38,7 @@ pub struct Row {
 
 // "the move in hand (stage, meter, old cell called from, target cell, words copied; all 0 when there is none ..)"
 // The stage is a number: 0 none, 1 first barrier, 2 copying, 3 second barrier, 4 third barrier; any other is none and breaks R2.
-#[derive(Drop)]
+#[derive(Clone, Copy)]
 pub struct Move {
     pub stage: u32,
     pub meter: u32,
@@ -47,7 +49,7 @@ pub struct Move {
 
 // "The control record": "a directory of 256 meters, each absent (65535) or a start cell; a map with one bit per cell, set when
 // used; the move in hand .. the counts begun, committed, aborted (32 bits)"
-#[derive(Drop)]
+#[derive(Clone, Copy)]
 pub struct Control {
     pub dir: [u16; 256],
     pub map: [u64; 16],
@@ -58,7 +60,7 @@ pub struct Control {
 }
 
 // What a call answers; `told` in specs/State.antt lists 01's number and value for each case.
-#[derive(Drop)]
+#[derive(Clone, Copy)]
 pub enum Answer {
     Refused(u32),
     Admitted(u32),
@@ -79,14 +81,14 @@ pub enum Answer {
 }
 
 // The word of the arena that a step changes, if any: no step but ADMIT changes more.
-#[derive(Drop)]
+#[derive(Clone, Copy)]
 pub enum Change {
     Nothing,
     Put { at: usize, word: u32 },
 }
 
 // What a client's step leaves: its row, the word changed, the answer.
-#[derive(Drop)]
+#[derive(Clone, Copy)]
 pub struct Stepped {
     pub row: Row,
     pub change: Change,

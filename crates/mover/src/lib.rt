@@ -1,5 +1,7 @@
 // ADVANCE: the stages of a move. What needs the move alone goes by the move; the rest takes the control record by value and gives it back.
 // Only the mover frees the replica. Knows nothing of rows: whether all have passed is told; the caller clears the marks.
+#![tactic(auto)]
+
 ghost use Rattle.std.specs.Prelude.{◌≡◌};
 ghost use Rattle.model.specs.Arena.{put_run, plain, flagged, cells_at};
 ghost use Rattle.model.specs.State.{stage_of, rise};
@@ -11,7 +13,7 @@ use directory::set_entry;
 use model::{Answer, Change, Control, Move};
 
 // What ADVANCE leaves where the move alone is concerned.
-#[derive(Drop)]
+#[derive(Clone, Copy)]
 pub struct Moved {
     pub mv: Move,
     pub change: Change,
@@ -20,7 +22,7 @@ pub struct Moved {
 }
 
 // What a step on the whole control record leaves.
-#[derive(Drop)]
+#[derive(Clone, Copy)]
 pub struct Kept {
     pub control: Control,
     pub change: Change,

@@ -1,5 +1,7 @@
 // Replay on slices: the bytes that it reads to the bytes that it prints, over a fresh archive.
 // Reads no file and prints nothing itself; a text that is not a script reaches no archive.
+#![tactic(auto)]
+
 ghost use Rattle.std.specs.Prelude.{◌≡◌, ◌*◌, ◌≤◌, length};
 ghost use Rattle.model.specs.Choice.{total};
 ghost use Rattle.model.specs.Arena.{fill};
@@ -24,7 +26,7 @@ const MOST: usize = 65536;
 const WORDS: usize = 32768;
 
 // The control record after some steps, and the place behind the lines printed for them.
-#[derive(Drop)]
+#[derive(Clone, Copy)]
 pub struct Played {
     pub control: Control,
     pub at: usize,

@@ -1,19 +1,21 @@
 // The words of a record: header and label packed and unpacked, the kind table, one word of the arena read or written.
 // Knows nothing of directory, map, clients or soundness; each function is total.
+#![tactic(auto)]
+
 ghost use Rattle.std.specs.Prelude.{◌≡◌, eqb, get_or, set, replicate};
 ghost use Rattle.model.specs.Arena.{of_kind, start, place, header, plain, flagged, label, label_of, kind_of, payload_place, new_record, laid};
 ghost use Rattle.model.specs.ClientSteps.{changed};
 ghost use Rattle.record.specs.Words.{unpacked, packed, unpacked_label};
 
 // "2 × target cell + flag: the lowest bit says that the record is being copied"
-#[derive(Drop)]
+#[derive(Clone, Copy)]
 pub struct Header {
     pub target: u32,
     pub flag: bool,
 }
 
 // "the label, 4 × meter + kind"
-#[derive(Drop)]
+#[derive(Clone, Copy)]
 pub struct Label {
     pub meter: u32,
     pub kind: u32,

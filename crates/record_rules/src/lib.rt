@@ -1,5 +1,7 @@
 // R1, R2, R4, R5 and R7 decided: the directory's records, the move, their headers, the move's numbers, the counts.
 // Each on any contents, for itself; changes nothing, and copies neither directory nor arena.
+#![tactic(auto)]
+
 ghost use Rattle.std.specs.Prelude.{◌≡◌, ◌+◌, leb, length};
 ghost use Rattle.model.specs.State.{idle};
 ghost use Rattle.model.specs.Rules.{record_right, replica_right, early_right, late_right, header_right, numbers_right, R1, R2, R4, R5, R7};

@@ -1,5 +1,7 @@
 // One client's row by value: its holds, its phase, its access.
 // Knows nothing of arena, directory or table; each function is total.
+#![tactic(auto)]
+
 ghost use Rattle.std.specs.Prelude.{◌≡◌, eqb, get_or, set};
 ghost use Rattle.model.specs.Choice.{pick, any};
 ghost use Rattle.model.specs.Arena.{none};

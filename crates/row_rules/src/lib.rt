@@ -1,5 +1,7 @@
 // R6 and R8 decided on every row of the table: its holds, its phase, its swaps.
 // R6 is asked where R1 holds: a present record is then found by its label. Changes nothing.
+#![tactic(auto)]
+
 ghost use Rattle.std.specs.Prelude.{◌≡◌, true, ◌≤◌, eqb, length};
 ghost use Rattle.model.specs.Choice.{all, any};
 ghost use Rattle.model.specs.Arena.{none};

@@ -1,12 +1,14 @@
 // "The client table is lent as eight rows, one for each client": the rows of a lent slice, taken out by value and put back.
 // Knows nothing of steps; a table of another length is not looked into.
+#![tactic(auto)]
+
 ghost use Rattle.std.specs.Prelude.{◌≡◌, []};
 ghost use Rattle.rows.specs.Eight.{eight_of, taken, put_back};
 
 use model::{Phase, Row};
 
 // "eight rows, one for each client", by value.
-#[derive(Drop)]
+#[derive(Clone, Copy)]
 pub struct Eight {
     pub r0: Row,
     pub r1: Row,

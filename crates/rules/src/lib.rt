@@ -1,5 +1,7 @@
 // The audit: R1 to R8 asked in order, on any control record, arena and table; gives the first that is broken.
 // A rule is asked only after those before it. Changes nothing.
+#![tactic(auto)]
+
 ghost use Rattle.std.specs.Prelude.{◌≡◌, length};
 ghost use Rattle.model.specs.State.{state};
 ghost use Rattle.model.specs.Rules.{first_broken};

@@ -1,6 +1,8 @@
 // The client table in lent words, twelve to a row: the one place that knows how a row lies in words.
 // Knows nothing of arena, control record or soundness; each function is total.
 // Words of a row: 0 attached, 1 passed, 2 to 5 the holds, 6 swaps, 7 phase, 8 cell, 9 hold, 10 word, 11 value.
+#![tactic(auto)]
+
 ghost use Rattle.std.specs.Prelude.{◌≡◌, ◌*◌};
 ghost use Rattle.model.specs.Choice.{any, total};
 ghost use Rattle.model.specs.Rows.{swaps_of, fresh_row, all_passed};
@@ -18,7 +20,7 @@ const ROWS: u32 = 8;
 const NONE: u32 = 65535;
 
 // The words of a phase: 0 resting, 2 ready to read, 3 ready to write, 4 waiting to read, 5 waiting to write; unused words are 0.
-#[derive(Drop)]
+#[derive(Clone, Copy)]
 pub struct PhaseWords {
     pub tag: u32,
     pub cell: u32,

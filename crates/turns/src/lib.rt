@@ -1,5 +1,7 @@
 // A run of steps on what is lent, each answered in its slot.
 // Knows nothing of sizes or soundness; on words that mean no rows it is still defined.
+#![tactic(auto)]
+
 ghost use Rattle.std.specs.Prelude.{◌≡◌};
 ghost use Rattle.model.specs.declared.Answer.TheVariants.{Done};
 ghost use Rattle.answers.specs.Answers.{told_as};
@@ -10,7 +12,7 @@ use acts::Turned;
 use model::{Answer, Control};
 
 // "A step is five numbers: who, code, a, b, v."
-#[derive(Drop)]
+#[derive(Clone, Copy)]
 pub struct Numbers {
     pub who: u32,
     pub code: u32,

@@ -1,5 +1,7 @@
 // Numbers in bytes, lowest byte first: one number, and lists of them, of two, four and eight bytes.
 // Knows nothing of what the numbers mean. Each `requires` is a size that the exported calls have tested.
+#![tactic(auto)]
+
 ghost use Rattle.std.specs.Prelude.{◌≡◌, ◌+◌, ◌*◌, ◌≤◌, length};
 ghost use Rattle.model.specs.Arena.{laid};
 ghost use Rattle.wire.specs.Bytes.{number, bytes, numbers, all_bytes};
