@@ -125,7 +125,7 @@ def antt(text, new):
 
 
 def rt(text, new):
-    lines = []
+    new, lines = {a: b for a, b in new.items() if snake(a) != a}, []
     for line in text.split("\n"):
         use = re.match(r"\s*ghost use ([\w.']+)", line)
         if use:

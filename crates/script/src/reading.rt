@@ -16,7 +16,7 @@ fn byte_at(s: &[u8], at: usize) -> u8
 }
 
 // The bytes `0` to `9`.
-fn is_digit_lem(b: u8) -> bool
+fn is_digit(b: u8) -> bool
     ensures { result ≡ is_digit b }
 {
     48 <= b && b <= 57
@@ -37,7 +37,7 @@ fn scan(s: &[u8], at: usize) -> Scanned
 {
     let mut v: u64 = 0;
     let mut i = at;
-    while is_digit_lem(byte_at(s, i)) {
+    while is_digit(byte_at(s, i)) {
         v = more(v, byte_at(s, i));
         i = i + 1;
     }
