@@ -1,4 +1,4 @@
--- A client's step of the model is its turn put back into the state. Assumes nothing.
+-- A client's step of the model is its turn put back into the state.
 use Rattle.std.proofs.Common.{◌≡◌, ℕ, zero, suc, pred, ◌<◌, Bool, true, false, List, [], ◌∷◌, get_or, drop, replicate, sym, refl, ap, ◌∙◌, arith, lt-ltb}
 use lib.ListN.{get_or-replicate, get_or-append, get_or-eq_default}
 use lib.Seq.{set-get_or}

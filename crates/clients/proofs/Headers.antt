@@ -1,4 +1,4 @@
--- The word that a won swap leaves. Assumes nothing.
+-- The word that a won swap leaves.
 use Rattle.std.proofs.Common.{◌≡◌, ℕ, ◌^◌, ◌<◌, false, arith}
 use Rattle.model.specs.Arena.{plain, flagged}
 use Rattle.record.specs.Words.{packed}

@@ -1,4 +1,4 @@
--- The one mechanism of refusal: the lowest number that applies decides the turn. Assumes nothing.
+-- The one mechanism of refusal: the lowest number that applies decides the turn.
 use Rattle.std.proofs.Common.{◌≡◌, ℕ, ◌<◌, ◌≤◌, true, ltb, List, sym, ◌∙◌, arith}
 use Rattle.model.proofs.Refusals.{numbers, refused_by_given, accepted_by_given}
 use Rattle.model.specs.Choice.{Refusal, given}

@@ -1,0 +1,10 @@
+-- `clients::detach` meets its contract: refused by the lowest number, or the row's parts one by one.
+use Rattle.std.proofs.Common.{refl}
+use Rattle.clients.proofs.Turns.{refused_by, done_by_lem}
+use Rattle.clients.proofs.detach.Goals as goal
+
+pub returns-then-n-gt0 : goal.returns-then-n-gt0
+returns-then-n-gt0 c = refused_by _ _ _ c.rest_refusal-n.ensures c.if-n-gt0.true c.refused.ensures
+
+pub returns : goal.returns
+returns c = done_by_lem _ _ _ refl c.rest_refusal-n.ensures c.if-n-gt0.false c.done.ensures
