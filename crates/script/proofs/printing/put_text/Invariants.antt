@@ -1,6 +1,5 @@
 -- `put_text`: at each turn what is left of the text, put on the page as it stands, gives the whole.
-use Rattle.std.proofs.Common.{◌≡◌, ◌-◌, ◌≤◌}
-use lib.ListN.{length, drop}
+use Rattle.std.proofs.Common.{◌≡◌, ◌-◌, ◌≤◌, length, drop}
 use Rattle.script.specs.Printing.{page, written}
 use Rattle.script.proofs.printing.put_text.Given as goal
 
