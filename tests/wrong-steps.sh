@@ -48,15 +48,16 @@ for law in model/proofs/Effects model/proofs/Answered demands/proofs/Requests de
 done
 apply "$edit"
 log=$work/$label.log
-if (cd "$work" && rt check demands) >"$log" 2>&1; then
+if (cd "$work/crates/demands" && rt check) >"$log" 2>&1; then
     echo "$label: NOT REFUSED: demands is still proved"
     exit 1
 fi
-# what fails by itself, and not because something before it failed; an error of another form, say of an import, is none that is meant
-errors=$(grep -E 'crates/demands/proofs/[A-Za-z]+\.antt:[0-9]+:[0-9]+: error: ' "$log" | grep -v 'was not admitted' || true)
-failed=$(sed -nE 's/.*proofs\/([A-Za-z]+)\.antt:[0-9:]+ error: `([^`]+)`: .*/\1 \2/p' <<<"$errors" | sort -u | paste -sd,)
+# what fails by itself, and not because something before it failed; an error of another form, say of an import, is none that is meant. Model,
+# which is checked first, must prove: its lines end before the crate demands is begun
+errors=$(grep -E '^\./proofs/[A-Za-z]+\.antt:[0-9]+:[0-9]+: error: ' "$log" | grep -vE 'declarations? that depends? on' || true)
+failed=$(sed -nE 's/^\.\/proofs\/([A-Za-z]+)\.antt:[0-9:]+ error: `([^`]+)`: .*/\1 \2/p' <<<"$errors" | sort -u | paste -sd,)
 odd=$(grep -vE 'error: `[^`]+`: ' <<<"$errors" || true)
-if ! grep -q '^rt: model proved' "$log" || [ -z "$failed" ] || [ -n "$odd" ]; then
+if ! sed '/^rt: .* for demands$/,$d' "$log" | grep -q '^logic=proved' || [ -z "$failed" ] || [ -n "$odd" ]; then
     echo "$label: refused, but not by a theorem of demands:"
     grep -m 3 -E 'error|rt:' "$log" || tail -n 3 "$log"
     exit 1
