@@ -1,7 +1,7 @@
 #!/usr/bin/env python3
 """Brings the repository's own definitions and lemmas to snake case: `withEntry` and `as-tabled` become `with_entry` and `as_tabled`.
 
-usage: python3 tools/snake_names.py            at the top of a checkout, once, right after the kit's port.py
+usage: python3 tools/snake_names.py            at the top of a checkout, right after the kit's port.py; a second run changes nothing
 
 Functions of src/, exported C names, types, modules, strings, inputs and outputs keep their names, and so do the constructors ADMIT ..
 NOBODY, which are written as the specification writes the steps (in snake case `admit` would fall together with what the step does).
@@ -44,7 +44,7 @@ def defined():
     """Each name that a file of specs/ or proofs/ declares, with the files; a walk's own names (Proof.antt) are the check's."""
     found = collections.defaultdict(set)
     for path in files(".antt"):
-        if os.path.basename(path) == "Proof.antt":
+        if os.path.basename(path) in ("Proof.antt", "Answers.antt", "Invariants.antt"):
             continue
         for line in text_of(path).split("\n"):
             if line.startswith("--"):
@@ -54,9 +54,11 @@ def defined():
                 found[kind[1]].add(path)
                 continue
             m = DEFINES.match(line)
-            if not m or (m[1] and len(m[1]) != 2):
+            if not m:
                 continue
             for name in m[3].split():
+                if m[1] and len(m[1]) != 2 and not re.search(r"[a-z]-|[a-z][A-Z]", name):
+                    continue
                 if NAME.fullmatch(name) and name not in ("--", "record", "data", "pub"):
                     found[name].add(path)
     return found
@@ -70,7 +72,7 @@ def renamed(found):
     new = {}
     for plain, names in sorted(together.items()):
         def rank(n):
-            return (not any("/specs/" in p for p in found[n]), "-" in n, n == plain, n)
+            return (not any("/specs/" in p for p in found[n]), n != plain, "-" in n, n)
         first, *rest = sorted(names, key=rank)
         new[first] = plain
         for n in rest:
