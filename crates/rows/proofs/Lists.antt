@@ -1,14 +1,15 @@
 -- A list of eight rows is its eight rows, and eight stores leave the rows that were stored.
 -- Assumes nothing.
 use mathlib.Core.Path.{◌≡◌, refl, sym, ap}
-use mathlib.Core.Bool.{Bool, true, false, not}
+use mathlib.Core.Bool.{false}
 use mathlib.Core.List.{List, [], ◌∷◌}
 use Prim.Native.Nat.{ℕ, suc, ◌<◌}
 use native.Mathlib.Omega.{arith}
-use lib.Dec.{T, eqb}
-use lib.ListN.{length, drop, set, drop_of_length-le}
+use lib.Dec.{eqb}
+use lib.ListN.{length, get_or, drop, set, drop_of_length-le}
 use lib.Seq.{drop-cons}
-use borrow.Author.Tests.{eq-eqb, eqb-true}
+use borrow.Author.Tests.{eq-eqb}
+use Rattle.std.proofs.lemmas.List.{get_or_default}
 use Rattle.model.specs.declared.Row.{Row}
 use Rattle.model.specs.Rows.{fresh_row}
 use Rattle.rows.specs.declared.Eight.{Eight}
@@ -31,25 +32,27 @@ stores t e = set (set (set (set (set (set (set (set t 0 e.r0) 1 e.r1) 2 e.r2) 3 
 pub stored : (t : List Row) (e : Eight) → length t ≡ 8 → stores t e ≡ rows_in e
 stored t e h = ap (λ (u : List Row). stores u e) (sym (eight_rows t h))
 
--- the code's test of the size, both ways
-pub not_eight : (t : List Row) → T (not (eqb (length t) 8)) → eqb (length t) 8 ≡ false
-not_eight t h = go (eqb (length t) 8) h
-  where
-    go : (b : Bool) → T (not b) → b ≡ false
-    go true a = absurd a
-    go false a = refl
-
-pub is_eight : (t : List Row) → T (not (not (eqb (length t) 8))) → length t ≡ 8
-is_eight t h = eqb-true (length t) 8 (go (eqb (length t) 8) h)
-  where
-    go : (b : Bool) → T (not (not b)) → b ≡ true
-    go true a = refl
-    go false a = absurd a
-
 -- both sizes
 pub taken_eight : (t : List Row) → length t ≡ 8 → eight_of t ≡ taken t
 unfolding taken
 taken_eight t h = rw (eq-eqb (length t) 8 h) refl
+
+-- the rows read in place, whatever would stand behind the list's end
+pub read_eight : (t : List Row) (d : Row) → length t ≡ 8
+    → record {
+      r0 = get_or t 0 d;
+      r1 = get_or t 1 d;
+      r2 = get_or t 2 d;
+      r3 = get_or t 3 d;
+      r4 = get_or t 4 d;
+      r5 = get_or t 5 d;
+      r6 = get_or t 6 d;
+      r7 = get_or t 7 d;
+    } ≡ taken t
+read_eight t d h =
+    let same = λ (i : ℕ) (p : i < length t). get_or_default t i d fresh_row p in
+    rw (same 0 (omega arith), same 1 (omega arith), same 2 (omega arith), same 3 (omega arith))
+    (rw (same 4 (omega arith), same 5 (omega arith), same 6 (omega arith), same 7 (omega arith)) (taken_eight t h))
 
 pub taken_other : (t : List Row) → eqb (length t) 8 ≡ false → eight_of [] ≡ taken t
 unfolding taken
