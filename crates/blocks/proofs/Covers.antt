@@ -1,5 +1,4 @@
 -- What blocks cover, as the walk over the directory adds it up: one block over one cell, and the sum over the first entries.
--- Assumes nothing.
 use mathlib.Core.Path.{◌≡◌, refl, sym, ◌∙◌}
 use mathlib.Core.Logic.{◌⊎◌, inl, inr, ⊎_elim}
 use mathlib.Core.List.{List, [], ◌∷◌}

@@ -1,5 +1,5 @@
 -- A block laid by two masks is the model's run put to 1: each cell of the map is then the maximum of what it was and of what the block
--- covers, and the test says that no cell was in both. Assumes nothing.
+-- covers, and the test says that no cell was in both.
 use mathlib.Core.Path.{◌≡◌, sym, ap, ap₂, ◌∙◌, subst⁻¹}
 use mathlib.Core.Bool.{Bool, true}
 use mathlib.Core.List.{List}

@@ -1,5 +1,5 @@
 -- What the walk over the directory has seen decides R3: while no block meets another, the map built so far has at each cell the sum of
--- the blocks that cover it; the map's words then decide the rest. Assumes nothing.
+-- the blocks that cover it; the map's words then decide the rest.
 use mathlib.Core.Path.{◌≡◌, refl, sym, ap, ◌∙◌, subst, subst⁻¹}
 use mathlib.Core.Bool.{Bool, true, false}
 use mathlib.Core.List.{List}
