@@ -1,4 +1,4 @@
--- The last test of a rule, where those before it hold, is what is left of the definition. Assumes nothing.
+-- The last test of a rule, where those before it hold, is what is left of the definition.
 use mathlib.Core.Path.{◌≡◌}
 use mathlib.Core.Bool.{true, false}
 use mathlib.Core.List.{List}
