@@ -23,7 +23,7 @@ use Rattle.demands.proofs.Lists.{set_cases}
 use Rattle.demands.proofs.Owners.{other, Owns, repaint, repaint_cases, repaint_in, owns_keep, mapped_run, run_unowned}
 use Rattle.demands.proofs.Words.{laid_else}
 use Rattle.demands.proofs.Inv.{RowOk, EntryOk, Sides, early, late, SidesOk, Block, in_entry, in_other, Core, Inv}
-use Rattle.demands.proofs.Blocks.{meter_lt, home-in, home-lt, home-entry, home-real, copied_fit, held_in, numbers_same}
+use Rattle.demands.proofs.Blocks.{meter_lt, home_in, home_lt, home_entry, home_real, copied_fit, held_in, numbers_same}
 use Rattle.demands.proofs.Entries.{carry_entry, same_account}
 use Rattle.demands.proofs.RowLaws.{reflag_row, redirected_row}
 use Rattle.demands.proofs.Keeping.{Keeps, keeps}
@@ -98,15 +98,15 @@ module _ {X : Type 0} {dir map : List ℕ} {v : Move} {arena : List ℕ} {val : 
       let ne = present_other i p in
       let u = old_entry i ne in
       in_entry (λ y. p (sym u ∙ y)) (omega arith) (rw (u, ne_eqb i a ne) r)
-  keep_block (in_other b e q r) = in_other b e q (rw (ne_eqb v.meter a (present_other v.meter (home-in C b))) r)
+  keep_block (in_other b e q r) = in_other b e q (rw (ne_eqb v.meter a (present_other v.meter (home_in C b))) r)
 
   moved_kind : {d e : ℕ} → Sides v d e → kind' v.meter ≡ kind v.meter
-  moved_kind b = same_kind v.meter (present_other v.meter (home-in C b))
+  moved_kind b = same_kind v.meter (present_other v.meter (home_in C b))
 
   keep_sides : {d e : ℕ} → Sides v d e → SidesOk (set dir a c) v kind' own' d e
   keep_sides {d} {e} b =
       let S = C.sides b in
-      let ne = present_other v.meter (home-in C b) in
+      let ne = present_other v.meter (home_in C b) in
       record {
         home = old_entry v.meter ne ∙ S.home;
         inside = S.inside;
@@ -118,7 +118,7 @@ module _ {X : Type 0} {dir map : List ℕ} {v : Move} {arena : List ℕ} {val : 
   pub side_word : {d e : ℕ} → Sides v d e → (j : ℕ) → j < 8 * cells (kind v.meter) → (word arena' d j ≡ word arena d j)
       × (word arena' e j ≡ word arena e j)
   side_word {d} {e} b j h = (
-    old_word v.meter d (cells (kind v.meter)) j (λ z. omega (arith, home-lt C b)) (home-entry C b).owns h,
+    old_word v.meter d (cells (kind v.meter)) j (λ z. omega (arith, home_lt C b)) (home_entry C b).owns h,
     old_word other e (cells (kind v.meter)) j (λ z. omega arith) (C.sides b).owns h,
   )
 
@@ -136,14 +136,14 @@ module _ {X : Type 0} {dir map : List ℕ} {v : Move} {arena : List ℕ} {val : 
     sides = λ b. keep_sides b;
     count = numbers_same (stage_of v.stage) v (words (kind v.meter)) (words (kind' v.meter))
         (λ l. ap words (sym (moved_kind (early l)))) (λ l. ap words (sym (moved_kind (late l)))) C.count;
-    old_head = λ l. let z = home-real C (late l) in (side_word (late l) 0 (omega arith)).1 ∙ C.old_head l;
-    old_label = λ l. let z = home-real C (late l) in rw (moved_kind (late l)) ((side_word (late l) 1 (omega arith)).1 ∙ C.old_label l);
-    replica_head = λ l p. let z = home-real C (early l) in (side_word (early l) 0 (omega arith)).1 ∙ C.replica_head l p;
-    replica_label = λ l p. let z = home-real C (early l) in
+    old_head = λ l. let z = home_real C (late l) in (side_word (late l) 0 (omega arith)).1 ∙ C.old_head l;
+    old_label = λ l. let z = home_real C (late l) in rw (moved_kind (late l)) ((side_word (late l) 1 (omega arith)).1 ∙ C.old_label l);
+    replica_head = λ l p. let z = home_real C (early l) in (side_word (early l) 0 (omega arith)).1 ∙ C.replica_head l p;
+    replica_label = λ l p. let z = home_real C (early l) in
         rw (moved_kind (early l)) ((side_word (early l) 1 (omega arith)).1 ∙ C.replica_label l p);
     replica = λ x f j p q.
         let b = early f.0 in
-        let z = home-real C b in
+        let z = home_real C b in
         let h : j < 8 * cells (kind v.meter) = omega (arith, copied_fit C f.0) in
         (side_word b j h).1 ∙ C.replica x (f.0, sym (side_word b 0 (omega arith)).0 ∙ f.1) j p q ∙ sym (side_word b j h).0;
   }
@@ -155,7 +155,7 @@ module _ {X : Type 0} {dir map : List ℕ} {v : Move} {arena : List ℕ} {val : 
       → RowOk X (set dir a c) v kind' (header arena' v.from) b r q
   admitted_row R =
       redirected_row a c (λ i n. present_other _ (held_in C (R.holds i) n)) same_kind
-      (reflag_row (λ f. let z = home-real C (early f.0) in (f.0, sym (side_word (early f.0) 0 (omega arith)).0 ∙ f.1)) R)
+      (reflag_row (λ f. let z = home_real C (early f.0) in (f.0, sym (side_word (early f.0) 0 (omega arith)).0 ∙ f.1)) R)
 
 -- what an ADMIT that is not refused asked for
 pub record Admission (s : State) (t : Step) : Type 0 where

@@ -22,7 +22,7 @@ use Rattle.demands.proofs.Blocks.{still}
 use Rattle.demands.proofs.Clients.{attach_inv, detach_inv, open_inv, drop_inv, read_inv, write_inv, rest_inv}
 use Rattle.demands.proofs.Finishes.{go_inv}
 use Rattle.demands.proofs.Begins.{begin_inv}
-use Rattle.demands.proofs.Ends.{advance-inv}
+use Rattle.demands.proofs.Ends.{advance_inv}
 use Rattle.demands.proofs.Admits.{admit_inv}
 use Rattle.demands.proofs.Retires.{retire_inv}
 
@@ -36,7 +36,7 @@ step_inv : {X : Type 0} (n : Name) (s : State) (g : Account) (t : Step) → Inv 
 step_inv ADMIT s g t I seat = admit_inv s g t I
 step_inv RETIRE s g t I seat = retire_inv s g t I
 step_inv BEGIN s g t I seat = begin_inv s g t I
-step_inv ADVANCE s g t I seat = advance-inv s g I t
+step_inv ADVANCE s g t I seat = advance_inv s g I t
 step_inv ATTACH s g t I seat = attach_inv s g t I seat
 step_inv DETACH s g t I seat = detach_inv s g t I seat
 step_inv OPEN s g t I seat = open_inv s g t I seat

@@ -85,7 +85,7 @@ module _ {X : Type 0} {dir map : List ℕ} {v : Move} {arena : List ℕ} {val : 
       → RowOk X dir (first_move a (entry dir a) d) kind h' b' (cleared r) q
   begun_row {r = r} {q = q} up R = record {
     four = R.four;
-    holds = λ i. keep-hold (R.holds i);
+    holds = λ i. keep_hold (R.holds i);
     detached = marked r _ (cleared_passed r) R.detached;
     passed = λ l. absurd l;
     le = omega (arith, R.le);
@@ -101,10 +101,10 @@ module _ {X : Type 0} {dir map : List ℕ} {v : Move} {arena : List ℕ} {val : 
         R.phase;
   }
     where
-      keep-hold : {h m : ℕ} → HoldOk dir v h m → HoldOk dir (first_move a (entry dir a) d) h m
-      keep-hold (empty e) = empty e
-      keep-hold (here u e) = here u e
-      keep-hold (was l _ _) = absurd (idle_late v quiet l)
+      keep_hold : {h m : ℕ} → HoldOk dir v h m → HoldOk dir (first_move a (entry dir a) d) h m
+      keep_hold (empty e) = empty e
+      keep_hold (here u e) = here u e
+      keep_hold (was l _ _) = absurd (idle_late v quiet l)
 
       busy : {c : ℕ} {x : Access} → Ready c x ≡ Resting → ⊥
       busy e = let z : ◌≡◌ {A = ℕ} 0 1 = cc in omega arith

@@ -85,33 +85,33 @@ module _ {X : Type 0} {dir map : List ℕ} {v : Move} {arena : List ℕ} {val : 
 
   -- the moved meter's record, at c, and the other block, at d
   module _ {c d : ℕ} (b : Sides v c d) where
-    pub home-in : entry dir v.meter ≢ none
-    home-in z = omega (arith, (C.sides b).home, (C.sides b).inside)
+    pub home_in : entry dir v.meter ≢ none
+    home_in z = omega (arith, (C.sides b).home, (C.sides b).inside)
 
-    pub home-lt : v.meter < 256
-    home-lt = meter_lt v.meter home-in
+    pub home_lt : v.meter < 256
+    home_lt = meter_lt v.meter home_in
 
-    pub home-entry : EntryOk X v arena val kind own v.meter c
-    home-entry = rw (C.sides b).home at (C.entries v.meter home-in)
+    pub home_entry : EntryOk X v arena val kind own v.meter c
+    home_entry = rw (C.sides b).home at (C.entries v.meter home_in)
 
-    pub home-real : Real (kind v.meter)
-    home-real = by_kind (kind v.meter) home-entry.kinded
+    pub home_real : Real (kind v.meter)
+    home_real = by_kind (kind v.meter) home_entry.kinded
 
-    pub side-lt : d < 1024
-    side-lt = let z = home-real in omega (arith, (C.sides b).range)
+    pub side_lt : d < 1024
+    side_lt = let z = home_real in omega (arith, (C.sides b).range)
 
-    pub side-own : own d ≡ other
-    side-own = let z = home-real in (C.sides b).owns d (omega arith) (omega arith)
+    pub side_own : own d ≡ other
+    side_own = let z = home_real in (C.sides b).owns d (omega arith) (omega arith)
 
-    pub side-apart : (m : ℕ) → entry dir m ≢ d
-    side-apart m z =
-        let n : entry dir m ≢ none = λ y. omega (arith, side-lt) in
-        omega (arith, entry_own m n, ap own z, side-own, meter_lt m n)
+    pub side_apart : (m : ℕ) → entry dir m ≢ d
+    side_apart m z =
+        let n : entry dir m ≢ none = λ y. omega (arith, side_lt) in
+        omega (arith, entry_own m n, ap own z, side_own, meter_lt m n)
 
   -- no more words are copied than the record has
   pub copied_fit : Early v → v.copied ≤ 8 * cells (kind v.meter)
   copied_fit l =
-      let z = home-real (early l) in
+      let z = home_real (early l) in
       omega (arith, copied_le (stage_of v.stage) v (words (kind v.meter)) l C.count)
 
   pub first_uncopied : First v → v.copied ≡ 0
@@ -119,14 +119,14 @@ module _ {X : Type 0} {dir map : List ℕ} {v : Move} {arena : List ℕ} {val : 
 
   -- the kind in the label of the moved record, at its old cell
   pub from_kind : {c d : ℕ} → Sides v c d → kind_of (label arena v.from) ≡ kind v.meter
-  from_kind (early l) = let E = home-entry (early l) in omega (arith, E.label, E.kinded)
-  from_kind (late l) = omega (arith, C.old_label l, (home-entry (late l)).kinded)
+  from_kind (early l) = let E = home_entry (early l) in omega (arith, E.label, E.kinded)
+  from_kind (late l) = omega (arith, C.old_label l, (home_entry (late l)).kinded)
 
   -- a filled hold stands for a present meter, and has its kind
   pub held_in : {h m : ℕ} → HoldOk dir v h m → h ≢ none → entry dir m ≢ none
   held_in (empty e) n = absurd (n e)
   held_in (here r e) n = λ z. n (sym e ∙ z)
-  held_in (was l e f) n = rw f (home-in (late l))
+  held_in (was l e f) n = rw f (home_in (late l))
 
   pub held_kind : {h m : ℕ} → HoldOk dir v h m → h ≢ none → kind_of (label arena h) ≡ kind m
   held_kind (empty e) n = absurd (n e)

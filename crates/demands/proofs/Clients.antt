@@ -29,8 +29,8 @@ use Rattle.demands.specs.Log.{access_to, Client, Account, new_client, client_of,
 use Rattle.demands.proofs.Lists.{set_cases, set_both}
 use Rattle.demands.proofs.Keeping.{Keeps, keeps}
 use Rattle.demands.proofs.Inv.{HoldOk, empty, here, at_entry, Asked, PhaseOk, rests, ready, waits, late, Core, Inv}
-use Rattle.demands.proofs.Blocks.{Cell, unflagged, flagged_cell, entry_range, side-lt, side-apart, held_kind, cell}
-use Rattle.demands.proofs.RowLaws.{old_header, RowIn, phase_rests, row_in, empty_row, seat-row, reseat-row}
+use Rattle.demands.proofs.Blocks.{Cell, unflagged, flagged_cell, entry_range, side_lt, side_apart, held_kind, cell}
+use Rattle.demands.proofs.RowLaws.{old_header, RowIn, phase_rests, row_in, empty_row, seat_row, reseat_row}
 
 -- where a hold goes at REST: to the meter's entry, so not to the old block
 pub forward : {X : Type 0} {dir map : List ℕ} {v : Move} {arena : List ℕ} {val : ℕ → ℕ → ℕ} {kind own : ℕ → ℕ}
@@ -39,12 +39,12 @@ pub forward : {X : Type 0} {dir map : List ℕ} {v : Move} {arena : List ℕ} {v
 unfolding forwarded
 forward {X} {dir} {map} {v} {arena} C {h} {m} k =
     by_test (λ (n : ℕ). HoldOk dir v n m × (Late v → n ≢ v.from)) (eqb h none)
-    (λ _. (empty refl, λ l z. omega (arith, side-lt C (late l))))
+    (λ _. (empty refl, λ l z. omega (arith, side_lt C (late l))))
     (λ y. from (cell C k (eqb-false h none y)))
   where
     at : (t : ℕ) → t < 1024 → entry dir m ≡ t → target_of (header arena h) ≡ t → HoldOk dir v (target_of (header arena h)) m
         × (Late v → target_of (header arena h) ≢ v.from)
-    at t u e z = rw z (here u e, λ l y. side-apart C (late l) m (e ∙ y))
+    at t u e z = rw z (here u e, λ l y. side_apart C (late l) m (e ∙ y))
 
     from : Cell dir v arena h m → HoldOk dir v (target_of (header arena h)) m × (Late v → target_of (header arena h) ≢ v.from)
     from (unflagged t e p u f) = at t u p (omega arith)
@@ -65,10 +65,10 @@ module _ {X : Type 0} (s : State) (g : Account) (t : Step) (I : Inv X s g) (seat
       R.le R.lt
 
   pub attach_inv : Keeps X ATTACH s g t
-  attach_inv = keeps ATTACH s g t I (λ k. seat-row I t seat _ new_client (emptied true (R.detached k.0).rests))
+  attach_inv = keeps ATTACH s g t I (λ k. seat_row I t seat _ new_client (emptied true (R.detached k.0).rests))
 
   pub detach_inv : Keeps X DETACH s g t
-  detach_inv = keeps DETACH s g t I (λ k. seat-row I t seat _ new_client (emptied false (phase_rests R.phase k.1.0).0))
+  detach_inv = keeps DETACH s g t I (λ k. seat_row I t seat _ new_client (emptied false (phase_rests R.phase k.1.0).0))
 
   -- OPEN and DROP: hold i gets cell c, opened on m
   with_hold_lem : (i c m : ℕ) → i ≤ 3 → not (own_row s t).attached ≡ false → busy (own_row s t).phase ≡ false
@@ -90,19 +90,19 @@ module _ {X : Type 0} (s : State) (g : Account) (t : Step) (I : Inv X s g) (seat
   pub open_inv : Keeps X OPEN s g t
   open_inv = keeps OPEN s g t I (λ k.
       let n : entry s.control.dir t.a ≢ none = eqb-false (entry s.control.dir t.a) none k.1.1.1.1.0 in
-      seat-row I t seat _ (with_hold (client_of g t) t.b t.a)
+      seat_row I t seat _ (with_hold (client_of g t) t.b t.a)
       (with_hold_lem t.b (entry s.control.dir t.a) t.a (ltb-false 3 t.b k.1.0) k.1.1.0 k.1.1.1.0
-      (here (entry_range I.core t.a n) refl) (λ l. side-apart I.core (late l) t.a)))
+      (here (entry_range I.core t.a n) refl) (λ l. side_apart I.core (late l) t.a)))
 
   pub drop_inv : Keeps X DROP s g t
   drop_inv = keeps DROP s g t I (λ k.
-      seat-row I t seat _ (with_hold (client_of g t) t.a none)
+      seat_row I t seat _ (with_hold (client_of g t) t.a none)
       (with_hold_lem t.a none none (ltb-false 3 t.a k.0) k.1.0 k.1.1.0 (empty refl)
-      (λ l z. omega (arith, side-lt I.core (late l)))))
+      (λ l z. omega (arith, side_lt I.core (late l)))))
 
   pub rest_inv : Keeps X REST s g t
   rest_inv = keeps REST s g t I (λ k.
-      reseat-row I t seat _ (record {
+      reseat_row I t seat _ (record {
         four = length-map (own_row s t).holds (forwarded s.arena) ∙ R.four;
         holds = λ i. rw (rest_hold s.arena (own_row s t).holds i) (forward I.core (R.holds i)).0;
         detached = λ e. clash (own_row s t).attached (not-false (own_row s t).attached k.0) e;
@@ -129,10 +129,10 @@ module _ {X : Type 0} (s : State) (g : Account) (t : Step) (I : Inv X s g) (seat
           (leb-false (payload_at s.arena (hold (own_row s t) (hold_of x))) (word_of x) k.1.1.1.1.0);
     }
 
-    with-phase : (p : Phase) → PhaseOk X s.control.dir s.control.mv g.kind (old_header s) s.control.begun
+    with_phase_lem : (p : Phase) → PhaseOk X s.control.dir s.control.mv g.kind (old_header s) s.control.begun
         (with_phase (own_row s t) p) q p
         → RowIn X s g (with_phase (own_row s t) p) q
-    with-phase p ok = record {
+    with_phase_lem p ok = record {
       four = R.four;
       holds = R.holds;
       detached = λ e. clash (own_row s t).attached (not-false (own_row s t).attached k.1.0) e;
@@ -152,7 +152,7 @@ module _ {X : Type 0} (s : State) (g : Account) (t : Step) (I : Inv X s g) (seat
         let back : header s.arena (hold (own_row s t) (hold_of x)) / 2 ≡ c = omega arith in
         by_test Next (flag_of (header s.arena (hold (own_row s t) (hold_of x))))
         (λ y. absurd (omega (arith, eqb-true (header s.arena (hold (own_row s t) (hold_of x)) % 2) 1 y)))
-        (λ _. rw says (seat-row I t seat _ q (with-phase (Ready (header s.arena (hold (own_row s t) (hold_of x)) / 2) x)
+        (λ _. rw says (seat_row I t seat _ q (with_phase_lem (Ready (header s.arena (hold (own_row s t) (hold_of x)) / 2) x)
         (ready (record {
           asked = asked;
           place = at_entry (p ∙ sym back);
@@ -161,15 +161,15 @@ module _ {X : Type 0} (s : State) (g : Account) (t : Step) (I : Inv X s g) (seat
         })))))
     by_cell (flagged_cell e p u l o) =
         by_test Next (flag_of (header s.arena (hold (own_row s t) (hold_of x))))
-        (λ _. rw says (seat-row I t seat _ q (with-phase (Waiting (hold (own_row s t) (hold_of x)) x)
+        (λ _. rw says (seat_row I t seat _ q (with_phase_lem (Waiting (hold (own_row s t) (hold_of x)) x)
         (waits (record { asked = asked; held = refl; owes = R.lt (l, rw (← o) e); elsewhere = λ _ z. absurd (z o) })))))
         (λ y. absurd (eqb-false (header s.arena (hold (own_row s t) (hold_of x)) % 2) 1 y (omega arith)))
 
-    access-inv : Next (load_header s.arena (own_row s t) x)
-    access-inv = by_cell (cell I.core (R.holds (hold_of x)) filled)
+    access_inv : Next (load_header s.arena (own_row s t) x)
+    access_inv = by_cell (cell I.core (R.holds (hold_of x)) filled)
 
   pub read_inv : Keeps X READ s g t
-  read_inv = keeps READ s g t I (access-inv READ (Read t.a t.b) refl)
+  read_inv = keeps READ s g t I (access_inv READ (Read t.a t.b) refl)
 
   pub write_inv : Keeps X WRITE s g t
-  write_inv = keeps WRITE s g t I (access-inv WRITE (Write t.a t.b t.v) refl)
+  write_inv = keeps WRITE s g t I (access_inv WRITE (Write t.a t.b t.v) refl)

@@ -25,7 +25,7 @@ use Rattle.demands.proofs.Lists.{set_cases}
 use Rattle.demands.proofs.Owners.{other, Owns, exchange, exchange_cases, mapped_exchange}
 use Rattle.demands.proofs.Inv.{HoldOk, empty, here, was, Place, at_entry, at_hold, RowOk, EntryOk, Sides, early, late, SidesOk}
 use Rattle.demands.proofs.Inv.{Block, in_entry, in_other, Core, Inv}
-use Rattle.demands.proofs.Blocks.{meter_lt, home-lt, home-entry, home-real, side-lt}
+use Rattle.demands.proofs.Blocks.{meter_lt, home_lt, home_entry, home_real, side_lt}
 use Rattle.demands.proofs.Entries.{stored_head, stored_else, stored_entry}
 use Rattle.demands.proofs.RowLaws.{carry_phase, marked, cleared_passed, cleared_get}
 use Rattle.demands.proofs.Copying.{restaged, count_at}
@@ -49,10 +49,10 @@ module _ {X : Type 0} {dir map : List ℕ} {v : Move} {arena : List ℕ} {val : 
   S = C.sides (early l)
 
   Y : EntryOk X v arena val kind own v.meter v.from
-  Y = home-entry C (early l)
+  Y = home_entry C (early l)
 
   in_dir : v.meter < length dir
-  in_dir = omega (arith, home-lt C (early l), C.entries256)
+  in_dir = omega (arith, home_lt C (early l), C.entries256)
 
   new_entry : entry dir' v.meter ≡ v.target
   new_entry = get_or-set_same dir v.meter v.target none in_dir
@@ -76,11 +76,11 @@ module _ {X : Type 0} {dir map : List ℕ} {v : Move} {arena : List ℕ} {val : 
   target_word : (k : ℕ) → k < 8 * cells (kind v.meter) → word arena' v.target k ≡ word arena v.target k
   target_word k b =
       stored_else C v.meter v.from S.home S.inside (plain v.target) other v.target (cells (kind v.meter)) k S.owns b
-      (λ e. absurd (omega (arith, home-lt C (early l))))
+      (λ e. absurd (omega (arith, home_lt C (early l))))
 
   moved : EntryOk X v' arena' val kind own' v.meter v.target
   moved =
-      let z = home-real C (early l) in
+      let z = home_real C (early l) in
       record {
         kinded = Y.kinded;
         range = S.range;
@@ -108,28 +108,28 @@ module _ {X : Type 0} {dir map : List ℕ} {v : Move} {arena : List ℕ} {val : 
       (let u = old_entry i n in in_entry (λ z. p (sym u ∙ z)) (omega arith) (omega arith)))
       (same_or_not i v.meter)
   new_block {x} {i} (in_other (early _) e q r) =
-      rw (e, side_owner) (let u = new_entry in in_entry (λ z. omega (arith, side-lt C (early l))) (omega arith) (omega arith))
+      rw (e, side_owner) (let u = new_entry in in_entry (λ z. omega (arith, side_lt C (early l))) (omega arith) (omega arith))
   new_block (in_other (late y) _ _ _) = absurd (not_both v l y)
 
   new_sides : {c d : ℕ} → Sides v' c d → SidesOk dir' v' kind own' c d
   new_sides (early y) = absurd y
   new_sides (late y) = record {
     home = new_entry;
-    inside = side-lt C (early l);
+    inside = side_lt C (early l);
     range = Y.range;
     owns = owns_as v.meter other v.from (cells (kind v.meter)) home_owner Y.owns;
   }
 
   pub committed_core : Core X dir' map v' arena' val kind own'
   committed_core =
-      let z = home-real C (early l) in
+      let z = home_real C (early l) in
       record {
         entries256 = length-set dir v.meter v.target ∙ C.entries256;
         words8192 = length-set arena (place v.from 0) (plain v.target) ∙ C.words8192;
         is_map = C.is_map;
         entries = set_cases (λ m c. c ≢ none → EntryOk X v' arena' val kind own' m c) dir v.meter v.target none in_dir
             (λ _. moved) unmoved;
-        mapped = mapped_exchange own map v.meter other (λ e. omega (arith, home-lt C (early l))) (λ e. omega arith) C.mapped;
+        mapped = mapped_exchange own map v.meter other (λ e. omega (arith, home_lt C (early l))) (λ e. omega arith) C.mapped;
         owned = λ x n. new_block (C.owned x (λ e. n (ap (exchange v.meter other) e ∙ nobody)));
         idle = λ y. absurd y;
         sides = λ b. new_sides b;
@@ -143,14 +143,14 @@ module _ {X : Type 0} {dir map : List ℕ} {v : Move} {arena : List ℕ} {val : 
       }
     where
       nobody : exchange v.meter other none ≡ none
-      nobody = exchange_cases (λ i j. j ≡ i) v.meter other none (λ e. absurd (omega (arith, home-lt C (early l))))
+      nobody = exchange_cases (λ i j. j ≡ i) v.meter other none (λ e. absurd (omega (arith, home_lt C (early l))))
           (λ e. absurd (omega arith)) (λ _ _. refl)
 
   pub committed_row : {h b : ℕ} {r : Row} {q : Client} → (First v → ⊥) → RowOk X dir v kind (header arena v.from) b r q
       → RowOk X dir' v' kind h b (cleared r) q
   committed_row {r = r} {q = q} beyond R = record {
     four = R.four;
-    holds = λ i. new-hold (R.holds i);
+    holds = λ i. new_hold (R.holds i);
     detached = marked r _ (cleared_passed r) R.detached;
     passed = λ _ p i z. omega (arith, (R.detached (not-true r.attached p)).empty i, S.inside);
     le = R.le;
@@ -158,7 +158,7 @@ module _ {X : Type 0} {dir map : List ℕ} {v : Move} {arena : List ℕ} {val : 
     phase = carry_phase (λ e. e)
         (λ c x _ W. record {
           asked = W.asked;
-          place = new-place (R.holds _) W.asked.filled W.place;
+          place = new_place (R.holds _) W.asked.filled W.place;
           away = λ _ f. absurd f.0;
           newest = λ y. old_entry _ (λ z. W.away y (l, flag) (λ k. absurd (beyond k)) (sym (W.newest y) ∙ ap (entry dir) z ∙ S.home))
               ∙ W.newest y;
@@ -167,27 +167,27 @@ module _ {X : Type 0} {dir map : List ℕ} {v : Move} {arena : List ℕ} {val : 
         R.phase;
   }
     where
-      new-hold : {h m : ℕ} → HoldOk dir v h m → HoldOk dir' v' h m
-      new-hold (empty e) = empty e
-      new-hold {h} {m} (here u e) =
+      new_hold : {h m : ℕ} → HoldOk dir v h m → HoldOk dir' v' h m
+      new_hold (empty e) = empty e
+      new_hold {h} {m} (here u e) =
           ⊎_elim (λ (z : m ≡ v.meter). was tt (sym e ∙ ap (entry dir) z ∙ S.home) z) (λ (n : m ≢ v.meter). here u (old_entry m n ∙ e))
           (same_or_not m v.meter)
-      new-hold (was y _ _) = absurd (not_both v l y)
+      new_hold (was y _ _) = absurd (not_both v l y)
 
       -- a row ready at the moved record stays at the old block, its hold's
-      new-place : {h m c : ℕ} → HoldOk dir v h m → h ≢ none → Place dir h m c → Place dir' h m c
-      new-place k n (at_hold e) = at_hold e
-      new-place (empty z) n (at_entry e) = absurd (n z)
-      new-place {h} {m} {c} (here u z) n (at_entry e) = ⊎_elim (λ (y : m ≡ v.meter). at_hold (sym z ∙ e))
+      new_place : {h m c : ℕ} → HoldOk dir v h m → h ≢ none → Place dir h m c → Place dir' h m c
+      new_place k n (at_hold e) = at_hold e
+      new_place (empty z) n (at_entry e) = absurd (n z)
+      new_place {h} {m} {c} (here u z) n (at_entry e) = ⊎_elim (λ (y : m ≡ v.meter). at_hold (sym z ∙ e))
           (λ (y : m ≢ v.meter). at_entry (old_entry m y ∙ e)) (same_or_not m v.meter)
-      new-place (was y _ _) n (at_entry e) = absurd (not_both v l y)
+      new_place (was y _ _) n (at_entry e) = absurd (not_both v l y)
 
 pub commit_inv : {X : Type 0} (s : State) (g : Account) → Inv X s g → stage_of s.control.mv.stage ≡ second_barrier
     → header s.arena s.control.mv.from ≡ flagged s.control.mv.from → Inv X (commit s).next g
 commit_inv {X} s g I e flag =
     let v = s.control.mv in
     let l : Early v = rw e tt in
-    let z = home-real I.core (early l) in
+    let z = home_real I.core (early l) in
     let all : v.copied ≡ 8 * cells (g.kind v.meter) = omega (arith, count_at s g I second_barrier e) in
     let beyond : First v → ⊥ = λ y. rw e at y in
     let r7 = I.r7 in

@@ -29,7 +29,7 @@ use Rattle.demands.proofs.Stages.{never, First, at_stage, not_both}
 use Rattle.demands.proofs.Owners.{other, Owns}
 use Rattle.demands.proofs.Words.{put_at, put_else}
 use Rattle.demands.proofs.Inv.{HoldOk, empty, here, was, RowOk, Sides, early, late, SidesOk, Block, in_entry, in_other, Core, Inv}
-use Rattle.demands.proofs.Blocks.{meter_lt, home-lt, home-entry, home-real, copied_le, from_kind}
+use Rattle.demands.proofs.Blocks.{meter_lt, home_lt, home_entry, home_real, copied_le, from_kind}
 use Rattle.demands.proofs.Entries.{carry_entry}
 use Rattle.demands.proofs.RowLaws.{carry_phase, marked, cleared_passed, cleared_get, passed_get}
 use Rattle.demands.proofs.Keeping.{Good}
@@ -84,10 +84,10 @@ module _ {X : Type 0} {dir map : List ℕ} {v : Move} {arena : List ℕ} {val : 
     replica_head = λ _. head;
     replica_label = λ _. lab;
     replica = λ x f j p q.
-        let E = home-entry C (early l) in
-        let z = home-real C (early l) in
+        let E = home_entry C (early l) in
+        let z = home_real C (early l) in
         let from : (j : ℕ) → j < 8 * cells (kind v.meter) → word arena' v.from j ≡ word arena v.from j =
-        λ j b. same v.meter v.from (cells (kind v.meter)) j (home-lt C (early l)) E.owns b in
+        λ j b. same v.meter v.from (cells (kind v.meter)) j (home_lt C (early l)) E.owns b in
         replica x (l, sym (from 0 (omega arith)) ∙ f.1) j p q
         ∙ sym (from j (omega (arith, copied_le (stage_of k) (restaged v k n) (words (kind v.meter)) on count)));
   }
@@ -99,7 +99,7 @@ pub goes_on_row : {X : Type 0} {dir : List ℕ} {v : Move} {kind : ℕ → ℕ} 
     → RowOk X dir (restaged v k n) kind h' b (with_passed r p) q
 goes_on_row {dir = dir} {v = v} {h = h} {h' = h'} {r = r} k n p l on e gone pass R = record {
   four = R.four;
-  holds = λ i. keep-hold (R.holds i);
+  holds = λ i. keep_hold (R.holds i);
   detached = marked r p gone R.detached;
   passed = λ y. absurd (not_both (restaged v k n) on y);
   le = R.le;
@@ -113,10 +113,10 @@ goes_on_row {dir = dir} {v = v} {h = h} {h' = h'} {r = r} k n p l on e gone pass
     back : Flag (restaged v k n) h' → Flag v h
     back f = (l, e ∙ f.1)
 
-    keep-hold : {c m : ℕ} → HoldOk dir v c m → HoldOk dir (restaged v k n) c m
-    keep-hold (empty e) = empty e
-    keep-hold (here u e) = here u e
-    keep-hold (was y _ _) = absurd (not_both v l y)
+    keep_hold : {c m : ℕ} → HoldOk dir v c m → HoldOk dir (restaged v k n) c m
+    keep_hold (empty e) = empty e
+    keep_hold (here u e) = here u e
+    keep_hold (was y _ _) = absurd (not_both v l y)
 
 -- the word that is written, where it is the first
 first_word : (arena : List ℕ) (v : Move) → v.copied ≡ 0 → replica_word arena v ≡ plain v.target
@@ -136,7 +136,7 @@ module _ {X : Type 0} {dir map : List ℕ} {v : Move} {arena : List ℕ} {val : 
       (C.sides (early l)).owns o more h (λ y. absurd (omega arith))
 
   pub from_word : (j : ℕ) → j < 8 * cells (kind v.meter) → word arena' v.from j ≡ word arena v.from j
-  from_word j b = meter_word v.meter v.from (cells (kind v.meter)) j (home-lt C (early l)) (home-entry C (early l)).owns b
+  from_word j b = meter_word v.meter v.from (cells (kind v.meter)) j (home_lt C (early l)) (home_entry C (early l)).owns b
 
   target_word : (j : ℕ) → j < 8 * cells (kind v.meter) → j ≢ v.copied → word arena' v.target j ≡ word arena v.target j
   target_word j b n =
@@ -163,7 +163,7 @@ module _ {X : Type 0} {dir map : List ℕ} {v : Move} {arena : List ℕ} {val : 
       (λ _. replica_cases (λ i x. i ≡ 0 → x ≡ plain v.target) 0 (omega arith) (λ z. first_word arena v z)
       (λ p _. C.replica_head l p) refl)
       (λ two. replica_cases (λ i x. i ≡ 1 → x ≡ label_of v.meter (kind v.meter)) 1 (omega arith)
-      (λ z. replica_copies arena v (λ y. omega arith) ∙ ap (word arena v.from) z ∙ (home-entry C (early l)).label)
+      (λ z. replica_copies arena v (λ y. omega arith) ∙ ap (word arena v.from) z ∙ (home_entry C (early l)).label)
       (λ p _. C.replica_label l p) refl)
       (λ x f j p q. replica_cases (λ i y. 0 < i → y ≡ word arena v.from i) j (omega arith)
       (λ i. replica_copies arena v (λ y. omega arith)) (λ b i. C.replica x f j i b) p)
@@ -184,7 +184,7 @@ module _ {X : Type 0} (s : State) (g : Account) (I : Inv X s g) where
   first_inv e p =
       let l : Early s.control.mv = rw e tt in
       let none_yet : s.control.mv.copied ≡ 0 = count_at first_barrier e in
-      let z = home-real I.core (early l) in
+      let z = home_real I.core (early l) in
       record {
         own = I.own;
         eight = I.eight;
@@ -200,7 +200,7 @@ module _ {X : Type 0} (s : State) (g : Account) (I : Inv X s g) where
   unfolding copy_word
   copy_inv t e =
       let l : Early v = rw e tt in
-      let z = home-real I.core (early l) in
+      let z = home_real I.core (early l) in
       let more : v.copied < 8 * cells (g.kind v.meter) = omega (arith, count_at copying e) in
       let up : rise v.copied ≡ suc v.copied = rise_is v.copied 64 (omega arith) (omega arith) in
       let size : words_at s.arena v.from ≡ words (g.kind v.meter) = ap words (from_kind I.core (early l)) in

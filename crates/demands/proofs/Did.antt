@@ -38,7 +38,7 @@ use Rattle.model.proofs.Says.{says_holds, one_yes}
 use Rattle.demands.specs.Log.{access_to, Account, client_of, after, log, said}
 use Rattle.demands.proofs.Stages.{Idle, idle_of}
 use Rattle.demands.proofs.Inv.{rests, ready, waits, Inv, early}
-use Rattle.demands.proofs.Blocks.{entry_range, home-real}
+use Rattle.demands.proofs.Blocks.{entry_range, home_real}
 use Rattle.demands.proofs.RowLaws.{old_header, PhaseIn, ReadyIn, phase_rests, row_in, cleared_get}
 use Rattle.demands.proofs.Entries.{stored_head}
 use Rattle.demands.proofs.Finishes.{home_head, spot_of, read_right}
@@ -158,11 +158,11 @@ module _ {X : Type 0} (s : State) (g : Account) (t : Step) (I : Inv X s g) where
         (calls_off e (rise_is s.control.aborted s.control.begun (omega arith) I.small)
         (eqb-false (header s.arena v.from) (flagged v.from) y)))
 
-    copying-word : stage_of v.stage ≡ copying → D (copy_word s)
+    copying_word : stage_of v.stage ≡ copying → D (copy_word s)
     unfolding copy_word
-    copying-word e =
+    copying_word e =
         let l : Early v = rw e tt in
-        let z = home-real I.core (early l) in
+        let z = home_real I.core (early l) in
         let more : v.copied < 8 * cells (g.kind v.meter) = omega (arith, count_at s g I copying e) in
         let up : rise v.copied ≡ suc v.copied = rise_is v.copied 64 (omega arith) (omega arith) in
         let head = from_word I.core l more 0 (omega arith) in
@@ -173,7 +173,7 @@ module _ {X : Type 0} (s : State) (g : Account) (t : Step) (I : Inv X s g) where
     by_stage : (n : Stage) → stage_of v.stage ≡ n → D (advance s n)
     by_stage idle e = refuses {n = 9} (omega arith)
     by_stage first_barrier e = beyond (start_copying s) (keeps k (omega arith) (omega arith) same (starts e (count_at s g I first_barrier e)))
-    by_stage copying e = copying-word e
+    by_stage copying e = copying_word e
     by_stage second_barrier e = beyond (settle s) (settled e)
     by_stage third_barrier e = beyond (give_back s) (keeps k (omega arith) (omega arith) same (gives_back e))
 
@@ -182,7 +182,7 @@ module _ {X : Type 0} (s : State) (g : Account) (t : Step) (I : Inv X s g) where
         let c : ℕ = lowest_run s.control.map (cells t.b) in
         let A = admission s t p in
         keeps {x = Admitted c} k (omega arith) (omega arith) same (admits t.a t.b c
-        (λ l. let z = home-real I.core (early l) in
+        (λ l. let z = home_real I.core (early l) in
         (side_word I.core t.a t.b c A.meter A.kind A.absent A.run (early l) 0 (omega arith)).0))
 
     beginning : Passed (refusals BEGIN s t) → D (effect BEGIN s t)

@@ -72,7 +72,7 @@ pub ended_row : {X : Type 0} {dir : List ℕ} {v : Move} {kind : ℕ → ℕ} {h
     → RowOk X dir no_move kind h' b r q
 ended_row {dir = dir} {v = v} pass R = record {
   four = R.four;
-  holds = λ i. keep-hold (R.holds i) (λ l. R.passed l (pass l) i);
+  holds = λ i. keep_hold (R.holds i) (λ l. R.passed l (pass l) i);
   detached = R.detached;
   passed = λ y. absurd y;
   le = R.le;
@@ -83,10 +83,10 @@ ended_row {dir = dir} {v = v} pass R = record {
       R.phase;
 }
   where
-    keep-hold : {h m : ℕ} → HoldOk dir v h m → (Late v → h ≢ v.from) → HoldOk dir no_move h m
-    keep-hold (empty e) n = empty e
-    keep-hold (here u e) n = here u e
-    keep-hold (was l e _) n = absurd (n l e)
+    keep_hold : {h m : ℕ} → HoldOk dir v h m → (Late v → h ≢ v.from) → HoldOk dir no_move h m
+    keep_hold (empty e) n = empty e
+    keep_hold (here u e) n = here u e
+    keep_hold (was l e _) n = absurd (n l e)
 
 module _ {X : Type 0} (s : State) (g : Account) (I : Inv X s g) where
   abbrev v : Move
@@ -138,5 +138,5 @@ module _ {X : Type 0} (s : State) (g : Account) (I : Inv X s g) where
     by_stage second_barrier e = beyond (settle s) (λ _. settled e)
     by_stage third_barrier e = beyond (give_back s) (give_back_inv e)
 
-    pub advance-inv : Keeps X ADVANCE s g t
-    advance-inv = keeps ADVANCE s g t I (λ _. by_stage (stage_of v.stage) refl)
+    pub advance_inv : Keeps X ADVANCE s g t
+    advance_inv = keeps ADVANCE s g t I (λ _. by_stage (stage_of v.stage) refl)

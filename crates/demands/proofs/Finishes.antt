@@ -31,7 +31,7 @@ use Rattle.demands.proofs.Owners.{other, Owns}
 use Rattle.demands.proofs.Words.{put_at, put_else}
 use Rattle.demands.proofs.Inv.{HoldOk, empty, here, was, Place, at_entry, at_hold, rests, ready, waits, RowOk, EntryOk, early, late}
 use Rattle.demands.proofs.Inv.{Core, Inv}
-use Rattle.demands.proofs.Blocks.{meter_lt, home-in, home-entry, home-real, side-apart, copied_fit, first_uncopied, held_in}
+use Rattle.demands.proofs.Blocks.{meter_lt, home_in, home_entry, home_real, side_apart, copied_fit, first_uncopied, held_in}
 use Rattle.demands.proofs.Keeping.{Keeps, keeps}
 use Rattle.demands.proofs.RowLaws.{old_header, PhaseIn, ReadyIn, RowIn, reflag_row, row_in, with_rows}
 use Rattle.demands.proofs.Swaps.{swap_inv}
@@ -68,12 +68,12 @@ module _ {X : Type 0} {dir map : List ℕ} {v : Move} {arena : List ℕ} {val : 
       let S = C.sides (late l) in (
         other,
         record {
-          kinded = rw q (home-entry C (late l)).kinded;
+          kinded = rw q (home_entry C (late l)).kinded;
           owns = rw (q, ← y, e) S.owns;
           room = rw (q, ← y, e) S.range;
           entry = λ n z w. absurd (omega (arith, meter_lt C n z));
           side = λ _. (l, sym y ∙ e);
-          mine = λ x. absurd (side-apart C (late l) m (f x ∙ sym y ∙ e));
+          mine = λ x. absurd (side_apart C (late l) m (f x ∙ sym y ∙ e));
         },
       )
 
@@ -92,9 +92,9 @@ module _ {X : Type 0} {dir map : List ℕ} {v : Move} {arena : List ℕ} {val : 
 
   pub home_head : Early v → header arena' v.from ≡ header arena v.from
   home_head l =
-      let z = home-real C (early l) in
-      else v.meter v.from (cells (kind v.meter)) 0 (home-entry C (early l)).owns (omega arith)
-      (λ y. (S.entry v.meter (home-in C (early l)) y ∙ (C.sides (early l)).home, λ k. omega arith))
+      let z = home_real C (early l) in
+      else v.meter v.from (cells (kind v.meter)) 0 (home_entry C (early l)).owns (omega arith)
+      (λ y. (S.entry v.meter (home_in C (early l)) y ∙ (C.sides (early l)).home, λ k. omega arith))
 
   target_word : Early v → (k : ℕ) → k < 8 * cells (kind v.meter) → word arena' v.target k ≡ word arena v.target k
   target_word l k b = else other v.target (cells (kind v.meter)) k (C.sides (early l)).owns b
@@ -102,7 +102,7 @@ module _ {X : Type 0} {dir map : List ℕ} {v : Move} {arena : List ℕ} {val : 
 
   from_word : (l : Late v) (k : ℕ) → k < 2 → word arena' v.from k ≡ word arena v.from k
   from_word l k b =
-      let z = home-real C (late l) in
+      let z = home_real C (late l) in
       else other v.from (cells (kind v.meter)) k (C.sides (late l)).owns (omega arith) (λ y. ((S.side y).1, λ e. omega arith))
 
   written_entry : (n : ℕ) → entry dir n ≢ none → EntryOk X v arena' (update val m (update (val m) w u)) kind own n (entry dir n)
@@ -143,15 +143,15 @@ module _ {X : Type 0} {dir map : List ℕ} {v : Move} {arena : List ℕ} {val : 
     count = C.count;
     old_head = λ l. from_word l 0 (omega arith) ∙ C.old_head l;
     old_label = λ l. from_word l 1 (omega arith) ∙ C.old_label l;
-    replica_head = λ l p. let z = home-real C (early l) in target_word l 0 (omega arith) ∙ C.replica_head l p;
-    replica_label = λ l p. let z = home-real C (early l) in target_word l 1 (omega arith) ∙ C.replica_label l p;
+    replica_head = λ l p. let z = home_real C (early l) in target_word l 0 (omega arith) ∙ C.replica_head l p;
+    replica_label = λ l p. let z = home_real C (early l) in target_word l 1 (omega arith) ∙ C.replica_label l p;
     replica = λ x f k p q.
         let l = f.0 in
         let f' : FlagUp v arena = (l, sym (home_head l) ∙ f.1) in
         let b : k < 8 * cells (kind v.meter) = omega (arith, copied_fit C l) in
         target_word l k b ∙ C.replica x f' k p q
-        ∙ sym (else v.meter v.from (cells (kind v.meter)) k (home-entry C (early l)).owns b
-        (λ y. absurd (away x f' (omega arith) (S.entry v.meter (home-in C (early l)) y ∙ (C.sides (early l)).home))));
+        ∙ sym (else v.meter v.from (cells (kind v.meter)) k (home_entry C (early l)).owns b
+        (λ y. absurd (away x f' (omega arith) (S.entry v.meter (home_in C (early l)) y ∙ (C.sides (early l)).home))));
   }
 
 module _ {X : Type 0} (s : State) (g : Account) (t : Step) (I : Inv X s g) (seat : pred t.who < 8) where

@@ -30,8 +30,8 @@ use Rattle.demands.proofs.Owners.{other, Owns}
 use Rattle.demands.proofs.Inv.{HoldOk, empty, here, was, Place, at_entry, at_hold, Asked, PhaseOk, rests, ready, waits, RowOk, Sides}
 use Rattle.demands.proofs.Inv.{early, late, SidesOk, Block, in_entry, in_other, Core, Inv}
 use Rattle.demands.proofs.Blocks.{Cell, unflagged, flagged_cell, held_kind, cell, numbers_same}
-use Rattle.demands.proofs.Cover.{owner, Owner, beyond, nobody, the-other, a-record, owner-is, owner-record, owner-other}
-use Rattle.demands.proofs.Cover.{owner-mapped}
+use Rattle.demands.proofs.Cover.{owner, Owner, beyond, nobody, the_other, a_record, owner_is, owner_record, owner_other}
+use Rattle.demands.proofs.Cover.{owner_mapped}
 
 -- what a state alone says of kinds, of the meters held and of the accesses begun
 abbrev pub kind_in : State → ℕ → ℕ
@@ -111,13 +111,13 @@ module _ (s : State) (Z : Sizes s) (S : Sound s) where
   own_entry : (m : ℕ) → entry dir m ≢ none → Owns own m (entry dir m) (cells (kind_in s m))
   own_entry m n x p q =
       let h = meter_lt m n in
-      owner-record dir s.control.map v arena S.r3 Z.entries x m (omega (arith, (S.r1 m h n).within)) (omega (arith, Z.entries))
+      owner_record dir s.control.map v arena S.r3 Z.entries x m (omega (arith, (S.r1 m h n).within)) (omega (arith, Z.entries))
       (record { present = n; low = p; high = q })
 
   own_other : {d : ℕ} → d + cells (kind_in s v.meter) ≤ 1024 → ((x : ℕ) → other_over v arena x ≡ covers d (cells (kind_in s v.meter)) x)
       → Owns own other d (cells (kind_in s v.meter))
   own_other {d} h e x p q =
-      owner-other dir s.control.map v arena S.r3 Z.entries x (omega arith) (e x ∙ covers_in d (cells (kind_in s v.meter)) x p q)
+      owner_other dir s.control.map v arena S.r3 Z.entries x (omega arith) (e x ∙ covers_in d (cells (kind_in s v.meter)) x p q)
 
   side_right : {c d : ℕ} → Sides v c d → entry dir v.meter ≢ none → entry dir v.meter ≡ c → d + cells_at arena v.from ≤ 1024
       → ((x : ℕ) → other_over v arena x ≡ covers d (cells_at arena v.from) x) → SidesOk dir v (kind_in s) own c d
@@ -138,8 +138,8 @@ module _ (s : State) (Z : Sizes s) (S : Sound s) where
   block_of : (x : ℕ) {i : ℕ} → Owner dir s.control.map v arena x i → i ≢ none → Block dir v (kind_in s) x i
   block_of x (beyond p) n = absurd (n refl)
   block_of x (nobody h p) n = absurd (n refl)
-  block_of x (a-record h p o) n = in_entry o.present o.low o.high
-  block_of x (the-other h p) n =
+  block_of x (a_record h p o) n = in_entry o.present o.low o.high
+  block_of x (the_other h p) n =
       other_by v arena x (λ (n : ℕ). n ≡ 1 → Block dir v (kind_in s) x other) (λ l. side (early l)) (λ l. side (late l))
       (λ _ _ e. absurd (omega arith)) p
     where
@@ -161,8 +161,8 @@ module _ (s : State) (Z : Sizes s) (S : Sound s) where
               head = S.r4.entries m (meter_lt m n) n;
               vals = λ x. absurd x;
             };
-        mapped = owner-mapped dir s.control.map v arena S.r3 Z.entries;
-        owned = λ x. block_of x (owner-is dir s.control.map v arena S.r3 Z.entries x);
+        mapped = owner_mapped dir s.control.map v arena S.r3 Z.entries;
+        owned = λ x. block_of x (owner_is dir s.control.map v arena S.r3 Z.entries x);
         idle = λ i. no_move_lem v (words_at arena v.from) (stage_of v.stage) i S.r5 (idle_zero v.stage S.r2.stage i);
         sides = sides_of;
         count =
@@ -247,10 +247,10 @@ module _ (s : State) (Z : Sizes s) (S : Sound s) where
   swaps_right_lem : (i : ℕ) → SwapsAt (flag_up v arena) v.from s.control.begun (row_in s i)
   swaps_right_lem i =
       all_get (SwapsAt (flag_up v arena) v.from s.control.begun) s.table i S.r8
-      (fresh_swaps (flag_up v arena) v.from s.control.begun (λ e. begun-some ((says_flag v arena).holds e).0))
+      (fresh_swaps (flag_up v arena) v.from s.control.begun (λ e. begun_some ((says_flag v arena).holds e).0))
     where
-      begun-some : T (is_early v) → 0 < s.control.begun
-      begun-some l = omega (arith, S.r7, one_yes (says_holds (is_early v)) l)
+      begun_some : T (is_early v) → 0 < s.control.begun
+      begun_some l = omega (arith, S.r7, one_yes (says_holds (is_early v)) l)
 
   pub inv_of : Inv ⊥ s (account_of s)
   inv_of =

@@ -76,7 +76,7 @@ retire_inv {X} s g t I =
     let free : (i j : ℕ) → hold (get_or s.table i fresh_row) j ≢ c =
     λ i j e. eqb-false c (hold (get_or s.table i fresh_row) j)
     (any_test (eqb c) (get_or s.table i fresh_row).holds j
-    (any_test (holds_cell c) s.table i k.1.1.1.0 (none-fresh c present)) (ne_eqb c none present)) (sym e) in
+    (any_test (holds_cell c) s.table i k.1.1.1.0 (none_fresh c present)) (ne_eqb c none present)) (sym e) in
     rw (held_kind I.core {h = c} {m = t.a} (here (entry_range I.core t.a present) refl) present)
     (record {
       own = repaint I.own c (cells (g.kind t.a)) none;
@@ -88,5 +88,5 @@ retire_inv {X} s g t I =
           (λ m _. refl) (I.rows i);
     }))
   where
-    none-fresh : (c : ℕ) → c ≢ none → holds_cell c fresh_row ≡ false
-    none-fresh c n = rw (ne_eqb c none n) refl
+    none_fresh : (c : ℕ) → c ≢ none → holds_cell c fresh_row ≡ false
+    none_fresh c n = rw (ne_eqb c none n) refl

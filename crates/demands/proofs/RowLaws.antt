@@ -21,7 +21,7 @@ use Rattle.model.proofs.Says.{all_test}
 use Rattle.model.proofs.Readings.{Flag, FlagUp}
 use Rattle.demands.specs.Log.{no_access, Client, Account, new_client, client_of, with_client}
 use Rattle.demands.proofs.Lists.{set_cases, set_both}
-use Rattle.demands.proofs.Blocks.{side-lt}
+use Rattle.demands.proofs.Blocks.{side_lt}
 use Rattle.demands.proofs.Inv.{HoldOk, empty, here, was, Place, at_entry, at_hold, Asked, ReadyOk, WaitingOk, PhaseOk, rests, ready}
 use Rattle.demands.proofs.Inv.{waits, Detached, RowOk, late, Rows, Inv}
 
@@ -80,36 +80,36 @@ pub redirected_row : {X : Type 0} {dir : List ℕ} {v : Move} {kind kind' : ℕ 
     → ((m : ℕ) → m ≢ a → kind' m ≡ kind m) → RowOk X dir v kind h b r q → RowOk X (set dir a c) v kind' h b r q
 redirected_row {dir = dir} {v = v} {kind = kind} {kind' = kind'} {r = r} {q = q} a c off same R = record {
   four = R.four;
-  holds = λ i. keep-hold (off i) (R.holds i);
+  holds = λ i. keep_hold (off i) (R.holds i);
   detached = R.detached;
   passed = R.passed;
   le = R.le;
   lt = R.lt;
   phase = carry_phase (λ e. e)
       (λ d x _ W. let z = off _ W.asked.filled in record {
-        asked = keep-ask z W.asked;
-        place = keep-place z W.place;
-        newest = λ y. keep-entry _ z ∙ W.newest y;
+        asked = keep_ask z W.asked;
+        place = keep_place z W.place;
+        newest = λ y. keep_entry _ z ∙ W.newest y;
         away = W.away;
       })
-      (λ d x W. record { asked = keep-ask (off _ W.asked.filled) W.asked; held = W.held; owes = W.owes; elsewhere = W.elsewhere })
+      (λ d x W. record { asked = keep_ask (off _ W.asked.filled) W.asked; held = W.held; owes = W.owes; elsewhere = W.elsewhere })
       R.phase;
 }
   where
-    keep-entry : (m : ℕ) → m ≢ a → entry (set dir a c) m ≡ entry dir m
-    keep-entry m n = get_or-set_other dir a m c none n
+    keep_entry : (m : ℕ) → m ≢ a → entry (set dir a c) m ≡ entry dir m
+    keep_entry m n = get_or-set_other dir a m c none n
 
-    keep-hold : {h m : ℕ} → (h ≢ none → m ≢ a) → HoldOk dir v h m → HoldOk (set dir a c) v h m
-    keep-hold n (empty e) = empty e
-    keep-hold {h} {m} n (here u e) = here u (keep-entry m (n (λ z. omega arith)) ∙ e)
-    keep-hold n (was l e f) = was l e f
+    keep_hold : {h m : ℕ} → (h ≢ none → m ≢ a) → HoldOk dir v h m → HoldOk (set dir a c) v h m
+    keep_hold n (empty e) = empty e
+    keep_hold {h} {m} n (here u e) = here u (keep_entry m (n (λ z. omega arith)) ∙ e)
+    keep_hold n (was l e f) = was l e f
 
-    keep-place : {h m d : ℕ} → m ≢ a → Place dir h m d → Place (set dir a c) h m d
-    keep-place {h} {m} n (at_entry e) = at_entry (keep-entry m n ∙ e)
-    keep-place n (at_hold e) = at_hold e
+    keep_place : {h m d : ℕ} → m ≢ a → Place dir h m d → Place (set dir a c) h m d
+    keep_place {h} {m} n (at_entry e) = at_entry (keep_entry m n ∙ e)
+    keep_place n (at_hold e) = at_hold e
 
-    keep-ask : {h : ℕ} {x : Access} → q.opened (hold_of x) ≢ a → Asked kind h q x → Asked kind' h q x
-    keep-ask n A = record { pending = A.pending; filled = A.filled; fits = rw (same _ n) A.fits }
+    keep_ask : {h : ℕ} {x : Access} → q.opened (hold_of x) ≢ a → Asked kind h q x → Asked kind' h q x
+    keep_ask n A = record { pending = A.pending; filled = A.filled; fits = rw (same _ n) A.fits }
 
 -- marks: a row with another mark, which an unattached one keeps; a table with its marks cleared; a table whose rows have all passed
 pub marked : (r : Row) (p : Bool) → (r.attached ≡ false → p ≡ true) → (r.attached ≡ false → Detached r) → r.attached ≡ false
@@ -137,7 +137,7 @@ module _ {X : Type 0} {s : State} {g : Account} (I : Inv X s g) where
     four = f;
     holds = λ i. empty (n i);
     detached = λ _. record { passed = p; empty = n; rests = e };
-    passed = λ l _ i z. omega (arith, n i, side-lt I.core (late l));
+    passed = λ l _ i z. omega (arith, n i, side_lt I.core (late l));
     le = le;
     lt = lt;
     phase = subst⁻¹ (PhaseOk X _ _ _ _ _ r new_client) e (rests refl);
@@ -155,13 +155,13 @@ module _ {X : Type 0} {s : State} {g : Account} (I : Inv X s g) where
     eight_rows : length (set s.table (pred t.who) r) ≡ 8
     eight_rows = length-set s.table (pred t.who) r ∙ I.eight
 
-    pub seat-row : (q : Client) → RowIn X s g r q → Inv X (with_row s t.who r) (with_client g t q)
-    seat-row q ok =
+    pub seat_row : (q : Client) → RowIn X s g r q → Inv X (with_row s t.who r) (with_client g t q)
+    seat_row q ok =
         with_rows _ _ eight_rows
         (set_both (RowIn X s g) s.table g.clients (pred t.who) r q fresh_row (omega (arith, I.eight)) ok I.rows)
 
-    pub reseat-row : RowIn X s g r (client_of g t) → Inv X (with_row s t.who r) g
-    reseat-row ok =
+    pub reseat_row : RowIn X s g r (client_of g t) → Inv X (with_row s t.who r) g
+    reseat_row ok =
         with_rows _ g.clients eight_rows
         (set_cases (λ j x. RowIn X s g x (g.clients j)) s.table (pred t.who) r fresh_row (omega (arith, I.eight)) ok
         (λ j _. I.rows j))

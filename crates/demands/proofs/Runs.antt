@@ -10,14 +10,14 @@ use Rattle.model.specs.State.{State, Outcome, Sizes}
 use Rattle.model.specs.Steps.{Step, act, step_call, ran, then, one_by_one, steps_from, steps_of, run_sizes, run_call}
 use Rattle.model.specs.Rules.{first_broken}
 use Rattle.model.proofs.Sizes.{right_size}
-use Rattle.model.proofs.Calls.{step-sound, run_sound, run-unsound}
+use Rattle.model.proofs.Calls.{step_sound, run_sound, run_unsound}
 use Rattle.demands.specs.Log.{after}
 use Rattle.demands.specs.Promises.{RunIsSteps}
 use Rattle.demands.proofs.Kept.{sound_kept, sizes_kept, after_sound, after_sizes}
 
 -- on a sound state a step is what `act` does
 pub step_is_act : (s : State) (t : Step) → Sizes s → first_broken s ≡ 0 → step_call s t ≡ act s t
-step_is_act s t Z e = step-sound s (right_size s Z) t e
+step_is_act s t Z e = step_sound s (right_size s Z) t e
 
 -- and a run is its steps, each as `act` does it
 pub run_acts : (s : State) (ws slots : List ℕ) → Sizes s → run_sizes ws slots ≡ true → first_broken s ≡ 0
@@ -34,7 +34,7 @@ unfolding steps_from
 no_steps s Z e = run_acts s [] [] Z none_fit e
 
 pub no_steps_unsound : (s : State) → Sizes s → first_broken s ≢ 0 → run_call s [] [] ≡ ran (Refused 2) [] s
-no_steps_unsound s Z n = run-unsound s (right_size s Z) [] [] none_fit n
+no_steps_unsound s Z n = run_unsound s (right_size s Z) [] [] none_fit n
 
 steps_are_acts : (l : List Step) (s : State) → Sizes s → first_broken s ≡ 0 → one_by_one step_call s l ≡ one_by_one act s l
 steps_are_acts [] s Z e = refl

@@ -25,9 +25,9 @@ use Rattle.demands.proofs.Stages.{not_both}
 use Rattle.demands.proofs.Lists.{set_cases}
 use Rattle.demands.proofs.Owners.{other}
 use Rattle.demands.proofs.Inv.{at_entry, ready, RowOk, early, Core, Inv}
-use Rattle.demands.proofs.Blocks.{Cell, unflagged, flagged_cell, cell, home-lt, home-real}
+use Rattle.demands.proofs.Blocks.{Cell, unflagged, flagged_cell, cell, home_lt, home_real}
 use Rattle.demands.proofs.Entries.{stored_head, stored_else, stored_entry}
-use Rattle.demands.proofs.RowLaws.{old_header, WaitingIn, RowIn, reflag_row, row_in, reseat-row}
+use Rattle.demands.proofs.RowLaws.{old_header, WaitingIn, RowIn, reflag_row, row_in, reseat_row}
 
 -- the flag goes from the moved record's header
 module _ {X : Type 0} {dir map : List ℕ} {v : Move} {arena : List ℕ} {val : ℕ → ℕ → ℕ} {kind own : ℕ → ℕ}
@@ -38,12 +38,12 @@ module _ {X : Type 0} {dir map : List ℕ} {v : Move} {arena : List ℕ} {val : 
   pub unflagged_core : Core X dir map v (set arena (place v.from 0) (plain v.from)) val kind own
   unflagged_core =
       let S = C.sides (early l) in
-      let z = home-real C (early l) in
+      let z = home_real C (early l) in
       let same : (j : ℕ) → j < 8 * cells (kind v.meter)
       → word (set arena (place v.from 0) (plain v.from)) v.target j ≡ word arena v.target j =
       λ j b. stored_else C v.meter v.from S.home S.inside (plain v.from) other v.target (cells (kind v.meter)) j
       S.owns b
-      (λ e. absurd (omega (arith, home-lt C (early l)))) in
+      (λ e. absurd (omega (arith, home_lt C (early l)))) in
       record {
         entries256 = C.entries256;
         words8192 = length-set arena (place v.from 0) (plain v.from) ∙ C.words8192;
@@ -92,7 +92,7 @@ module _ {X : Type 0} (s : State) (g : Account) (t : Step) (I : Inv X s g) (seat
       let back : header s.arena c / 2 ≡ d = omega arith in
       by_test Next (eqb (header s.arena c) (flagged c))
       (λ y. absurd (omega (arith, eqb-true (header s.arena c) (flagged c) y)))
-      (λ _. reseat-row I t seat _
+      (λ _. reseat_row I t seat _
       (at_entry_now (old_header s) (target_of (header s.arena c)) (p ∙ sym back) (λ k. (k, λ z. (f k).0 (sym back ∙ z), (f k).1))))
   by_cell (flagged_cell e p u l o) =
       by_test Next (eqb (header s.arena c) (flagged c))

@@ -20,21 +20,21 @@ use Rattle.model.proofs.Says.{says_eq, says_not, at_all}
 use Rattle.model.proofs.Readings.{RecordsRight, MoveRight, CellsRight, HeadersRight, NumbersAt, HoldRight, hold_empty, hold_present}
 use Rattle.model.proofs.Readings.{hold_old, AccessRight, PhaseRight, RowRight, SwapsAt, Owing, owed_le, says_flag, Sound}
 use Rattle.model.proofs.Covers.{covers_in, other_over, other_early, other_late, other_by, Over, covers_is}
-use Rattle.model.proofs.Wording.{InBlock, in-record, in_other as other_block, words_in_cells}
+use Rattle.model.proofs.Wording.{InBlock, in_record, in_other as other_block, words_in_cells}
 use Rattle.demands.specs.Log.{Client, Account}
 use Rattle.demands.proofs.Owners.{other, bit_of, owner_bit}
 use Rattle.demands.proofs.Inv.{HoldOk, empty, here, was, Place, at_entry, at_hold, Asked, PhaseOk, rests, ready, waits, RowOk, Sides}
 use Rattle.demands.proofs.Inv.{early, late, Block, in_entry, in_other, Core, Inv}
-use Rattle.demands.proofs.Blocks.{Cell, unflagged, flagged_cell, meter_lt, entry_range, home-in, home-entry, from_kind, held_kind}
+use Rattle.demands.proofs.Blocks.{Cell, unflagged, flagged_cell, meter_lt, entry_range, home_in, home_entry, from_kind, held_kind}
 use Rattle.demands.proofs.Blocks.{cell, numbers_same}
 
 -- a number that is no stage counts as none in hand
 stage_lt : (v : Move) → (T (not (in_hand (stage_of v.stage))) → v ≡ no_move) → v.stage < 5
 stage_lt v f =
-    ⊎_elim (λ h. h) (λ (h : 5 ≤ v.stage). absurd (omega (arith, ap (λ (w : Move). w.stage) (f (none-in-hand h))))) (order v.stage 5)
+    ⊎_elim (λ h. h) (λ (h : 5 ≤ v.stage). absurd (omega (arith, ap (λ (w : Move). w.stage) (f (none_in_hand h))))) (order v.stage 5)
   where
-    none-in-hand : 5 ≤ v.stage → T (not (in_hand (stage_of v.stage)))
-    none-in-hand h =
+    none_in_hand : 5 ≤ v.stage → T (not (in_hand (stage_of v.stage)))
+    none_in_hand h =
         subst⁻¹ (λ (g : Stage). T (not (in_hand g)))
         (get_or-eq_default (idle ∷ first_barrier ∷ copying ∷ second_barrier ∷ third_barrier ∷ []) idle h) tt
 
@@ -73,18 +73,18 @@ module _ {X : Type 0} (s : State) (g : Account) (I : Inv X s g) where
         early = λ l.
             let k = from_cells (early l) in
             record {
-              present = home-in C (early l);
+              present = home_in C (early l);
               old = (C.sides (early l)).home;
               within = omega (arith, (C.sides (early l)).range);
               replica_header = C.replica_head l;
-              replica_label = λ p. C.replica_label l p ∙ sym (home-entry C (early l)).label;
+              replica_label = λ p. C.replica_label l p ∙ sym (home_entry C (early l)).label;
             };
         late = λ l.
             let k = from_cells (late l) in
             record {
-              present = home-in C (late l);
+              present = home_in C (late l);
               new = (C.sides (late l)).home;
-              same_label = C.old_label l ∙ sym (home-entry C (late l)).label;
+              same_label = C.old_label l ∙ sym (home_entry C (late l)).label;
               within = omega (arith, (C.sides (late l)).range);
             };
       }
@@ -112,24 +112,24 @@ module _ {X : Type 0} (s : State) (g : Account) (I : Inv X s g) where
   block_in : {x i : ℕ} → Block dir v g.kind x i → InBlock dir v arena x
   block_in {x} {i} (in_entry n p q) =
       let k = entry_cells i n in
-      in-record i (omega (arith, meter_lt C i n, C.entries256)) (record { present = n; low = p; high = omega arith })
+      in_record i (omega (arith, meter_lt C i n, C.entries256)) (record { present = n; low = p; high = omega arith })
   block_in {x} (in_other b e p q) = other_block (other_on x b p q)
 
   rule3 : CellsRight dir s.control.map v arena
   rule3 = words_in_cells dir s.control.map v arena (λ x h.
       record {
-        used-only = λ e. block_in (C.owned x (λ z. omega (arith, C.mapped x h, ap bit_of z)));
-        used_all = used-by x h;
-        one-record = λ m n _ _ o q. sym (record_own x m o) ∙ record_own x n q;
+        used_only = λ e. block_in (C.owned x (λ z. omega (arith, C.mapped x h, ap bit_of z)));
+        used_all = used_by x h;
+        one_record = λ m n _ _ o q. sym (record_own x m o) ∙ record_own x n q;
         not_both = λ m b o e. omega (arith, record_own x m o, other_own x e, C.entries256);
       })
     where
       used_at : (x i : ℕ) → x < 1024 → I.own x ≡ i → i ≢ none → used s.control.map x ≡ 1
       used_at x i h e n = C.mapped x h ∙ ap bit_of e ∙ sym (owner_bit i n)
 
-      used-by : (x : ℕ) → x < 1024 → InBlock dir v arena x → used s.control.map x ≡ 1
-      used-by x h (in-record m b o) = used_at x m h (record_own x m o) (λ z. omega (arith, C.entries256))
-      used-by x h (other_block e) = used_at x other h (other_own x e) (λ z. omega arith)
+      used_by : (x : ℕ) → x < 1024 → InBlock dir v arena x → used s.control.map x ≡ 1
+      used_by x h (in_record m b o) = used_at x m h (record_own x m o) (λ z. omega (arith, C.entries256))
+      used_by x h (other_block e) = used_at x other h (other_own x e) (λ z. omega arith)
 
   rule4 : HeadersRight dir v arena
   rule4 = record { entries = λ m b n. (C.entries m n).head; old = C.old_head }

@@ -43,29 +43,29 @@ module _ (s : State) where
 
   module _ (right : wrong_size s ≡ false) where
     -- 2 "state breaks a rule R1 to R8": a step and fill are refused, fresh and audit are not
-    pub step-unsound : (t : Step) → first_broken s ≢ 0 → step_call s t ≡ refused s 2
+    pub step_unsound : (t : Step) → first_broken s ≢ 0 → step_call s t ≡ refused s 2
     unfolding step_call
-    step-unsound t n = rw (right, unsound_fails s n) refl
+    step_unsound t n = rw (right, unsound_fails s n) refl
 
-    pub fill-unsound : first_broken s ≢ 0 → fill_call s ≡ refused s 2
+    pub fill_unsound : first_broken s ≢ 0 → fill_call s ≡ refused s 2
     unfolding fill_call
-    fill-unsound n = rw (right, unsound_fails s n) refl
+    fill_unsound n = rw (right, unsound_fails s n) refl
 
-    pub step-sound : (t : Step) → first_broken s ≡ 0 → step_call s t ≡ act s t
+    pub step_sound : (t : Step) → first_broken s ≡ 0 → step_call s t ≡ act s t
     unfolding step_call
-    step-sound t e = rw (right, sound_passes s e) refl
+    step_sound t e = rw (right, sound_passes s e) refl
 
-    pub fill-sound : first_broken s ≡ 0 → fill_call s ≡ outcome (Done (fill s.control.map)) s
+    pub fill_sound : first_broken s ≡ 0 → fill_call s ≡ outcome (Done (fill s.control.map)) s
     unfolding fill_call
-    fill-sound e = rw (right, sound_passes s e) refl
+    fill_sound e = rw (right, sound_passes s e) refl
 
-    pub fresh-succeeds : fresh_call s ≡ outcome (Done 0) fresh
+    pub fresh_succeeds : fresh_call s ≡ outcome (Done 0) fresh
     unfolding fresh_call
-    fresh-succeeds = rw right refl
+    fresh_succeeds = rw right refl
 
-    pub audit-succeeds : audit_call s ≡ outcome (Done (first_broken s)) s
+    pub audit_succeeds : audit_call s ≡ outcome (Done (first_broken s)) s
     unfolding audit_call
-    audit-succeeds = rw right refl
+    audit_succeeds = rw right refl
 
     -- the steps of a run are done
     pub run_sound : (ws slots : List ℕ) → run_sizes ws slots ≡ true → first_broken s ≡ 0
@@ -74,9 +74,9 @@ module _ (s : State) where
     run_sound ws slots q e = rw (right, q, sound_passes s e) refl
 
     -- 2 refuses the whole run: the answer slots and the state stay as they are
-    pub run-unsound : (ws slots : List ℕ) → run_sizes ws slots ≡ true → first_broken s ≢ 0 → run_call s ws slots ≡ ran (Refused 2) slots s
+    pub run_unsound : (ws slots : List ℕ) → run_sizes ws slots ≡ true → first_broken s ≢ 0 → run_call s ws slots ≡ ran (Refused 2) slots s
     unfolding run_call
-    run-unsound ws slots q n = rw (right, q, unsound_fails s n) refl
+    run_unsound ws slots q n = rw (right, q, unsound_fails s n) refl
 
   -- and so does 1, for the sizes of arena and table or for those of steps and slots
   pub run_wrong_size : (ws slots : List ℕ) → wrong_size s ≡ true → run_call s ws slots ≡ ran (Refused 1) slots s

@@ -336,30 +336,30 @@ owed_le false from begun n (Waiting c x) k = omega (arith, k.waiting refl refl)
 
 pub owed_words : (flag : Bool) (from begun n : ℕ) (p : Phase) → n + owed flag from p ≤ begun → Owing flag from begun n p
 owed_words flag from begun n p h =
-    record { most = omega arith; flagged = one-owed flag p h; elsewhere = two-owed flag p h; waiting = wait-owed flag p h }
+    record { most = omega arith; flagged = one_owed flag p h; elsewhere = two_owed flag p h; waiting = wait_owed flag p h }
   where
-    one-owed : (flag : Bool) (p : Phase) → n + owed flag from p ≤ begun → flag ≡ true → n < begun
-    one-owed true Resting h e = omega arith
-    one-owed true (Ready c x) h e = omega arith
-    one-owed true (Waiting c x) h e =
+    one_owed : (flag : Bool) (p : Phase) → n + owed flag from p ≤ begun → flag ≡ true → n < begun
+    one_owed true Resting h e = omega arith
+    one_owed true (Ready c x) h e = omega arith
+    one_owed true (Waiting c x) h e =
         by_test (λ (k : ℕ). n + k ≤ begun → n < begun) (eqb c from) (λ _ h. omega arith) (λ _ h. omega arith) h
-    one-owed false p h e = clash false e refl
+    one_owed false p h e = clash false e refl
 
-    two-owed : (flag : Bool) (p : Phase) → n + owed flag from p ≤ begun → flag ≡ true → waits_elsewhere from p ≡ true → n + 1 < begun
-    two-owed true Resting h e w = clash false w refl
-    two-owed true (Ready c x) h e w = clash false w refl
-    two-owed true (Waiting c x) h e w = by (eqb c from) h w
+    two_owed : (flag : Bool) (p : Phase) → n + owed flag from p ≤ begun → flag ≡ true → waits_elsewhere from p ≡ true → n + 1 < begun
+    two_owed true Resting h e w = clash false w refl
+    two_owed true (Ready c x) h e w = clash false w refl
+    two_owed true (Waiting c x) h e w = by (eqb c from) h w
       where
         by : (t : Bool) → n + pick t 1 2 ≤ begun → not t ≡ true → n + 1 < begun
         by true h w = clash false w refl
         by false h w = omega arith
-    two-owed false p h e w = clash false e refl
+    two_owed false p h e w = clash false e refl
 
-    wait-owed : (flag : Bool) (p : Phase) → n + owed flag from p ≤ begun → flag ≡ false → waits p ≡ true → n < begun
-    wait-owed true p h e w = clash true refl e
-    wait-owed false Resting h e w = clash false w refl
-    wait-owed false (Ready c x) h e w = clash false w refl
-    wait-owed false (Waiting c x) h e w = omega arith
+    wait_owed : (flag : Bool) (p : Phase) → n + owed flag from p ≤ begun → flag ≡ false → waits p ≡ true → n < begun
+    wait_owed true p h e w = clash true refl e
+    wait_owed false Resting h e w = clash false w refl
+    wait_owed false (Ready c x) h e w = clash false w refl
+    wait_owed false (Waiting c x) h e w = omega arith
 
 -- a waiting row owes one at least
 pub waiting_owes : {from begun n : ℕ} {p : Phase} (flag : Bool) → Owing flag from begun n p → waits p ≡ true → n < begun

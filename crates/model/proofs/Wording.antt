@@ -25,13 +25,13 @@ use Rattle.model.proofs.Readings.{says_flag, present_lt}
 module _ (dir : List ℕ) (v : Move) (arena : List ℕ) (x : ℕ) where
   -- cell x lies in a block
   pub data InBlock : Type 0 where
-    in-record : (m : ℕ) → m < length dir → Over arena x (entry dir m) → InBlock
+    in_record : (m : ℕ) → m < length dir → Over arena x (entry dir m) → InBlock
     in_other : other_over v arena x ≡ 1 → InBlock
 
   pub record CellInWords (u : ℕ) : Type 0 where
-    pub used-only : u ≡ 1 → InBlock
+    pub used_only : u ≡ 1 → InBlock
     pub used_all : InBlock → u ≡ 1
-    pub one-record : (m n : ℕ) → m < length dir → n < length dir → Over arena x (entry dir m) → Over arena x (entry dir n) → m ≡ n
+    pub one_record : (m n : ℕ) → m < length dir → n < length dir → Over arena x (entry dir m) → Over arena x (entry dir n) → m ≡ n
     pub not_both : (m : ℕ) → m < length dir → Over arena x (entry dir m) → other_over v arena x ≢ 1
 
   abbrev blocks : ℕ
@@ -43,9 +43,9 @@ module _ (dir : List ℕ) (v : Move) (arena : List ℕ) (x : ℕ) where
   pub sum_in_words : (u : ℕ) → u < 2 → blocks ≡ u → CellInWords u
   sum_in_words u b e =
       record {
-        used-only = λ z. ⊎_elim in_other (records z) (same_or_not (other_over v arena x) 1);
-        used_all = all-used;
-        one-record = λ m n p q r s.
+        used_only = λ z. ⊎_elim in_other (records z) (same_or_not (other_over v arena x) 1);
+        used_all = all_used;
+        one_record = λ m n p q r s.
             ⊎_elim (λ (z : m ≡ n). z)
             (λ (ne : m ≢ n). absurd (omega (arith, total_two (record_covers arena x) none dir m n p q ne, record_on m r, record_on n s)))
             (same_or_not m n);
@@ -55,23 +55,23 @@ module _ (dir : List ℕ) (v : Move) (arena : List ℕ) (x : ℕ) where
       somewhere : Somewhere (λ c. record_covers arena x c ≢ 0) none dir → InBlock
       somewhere k =
           let ne : record_covers arena x (entry dir k.at) ≢ 0 = k.holds in
-          in-record k.at k.low (record_is arena x (entry dir k.at) (omega (arith, record_le arena x (entry dir k.at))))
+          in_record k.at k.low (record_is arena x (entry dir k.at) (omega (arith, record_le arena x (entry dir k.at))))
 
       records : u ≡ 1 → other_over v arena x ≢ 1 → InBlock
       records z ne = somewhere (total_some (record_covers arena x) none dir (λ t. omega (arith, other_le v arena x)))
 
-      all-used : InBlock → u ≡ 1
-      all-used (in-record m p r) = omega (arith, total_at (record_covers arena x) none dir m p, record_on m r)
-      all-used (in_other z) = omega arith
+      all_used : InBlock → u ≡ 1
+      all_used (in_record m p r) = omega (arith, total_at (record_covers arena x) none dir m p, record_on m r)
+      all_used (in_other z) = omega arith
 
   pub words_in_sum : (u : ℕ) → u < 2 → CellInWords u → blocks ≡ u
-  words_in_sum u b w = ⊎_elim (λ (z : u ≡ 1). covered z (w.used-only z)) free (same_or_not u 1)
+  words_in_sum u b w = ⊎_elim (λ (z : u ≡ 1). covered z (w.used_only z)) free (same_or_not u 1)
     where
       covered : u ≡ 1 → InBlock → blocks ≡ u
-      covered z (in-record m p r) =
+      covered z (in_record m p r) =
           let only =
           total_one (record_covers arena x) none dir m p
-          (λ j q ne. record_out arena x (entry dir j) (λ o. ne (w.one-record j m q p o r))) in
+          (λ j q ne. record_out arena x (entry dir j) (λ o. ne (w.one_record j m q p o r))) in
           let no : other_over v arena x ≢ 1 = w.not_both m p r in
           omega (arith, only, record_on m r, other_le v arena x)
       covered z (in_other e) =
@@ -81,7 +81,7 @@ module _ (dir : List ℕ) (v : Move) (arena : List ℕ) (x : ℕ) where
       free ne =
           let no : other_over v arena x ≢ 1 = λ e. ne (w.used_all (in_other e)) in
           let none_over =
-          total_zero (record_covers arena x) none dir (λ j q. record_out arena x (entry dir j) (λ o. ne (w.used_all (in-record j q o)))) in
+          total_zero (record_covers arena x) none dir (λ j q. record_out arena x (entry dir j) (λ o. ne (w.used_all (in_record j q o)))) in
           omega (arith, none_over, other_le v arena x)
 
 pub cells_in_words : (dir map : List ℕ) (v : Move) (arena : List ℕ) → CellsRight dir map v arena

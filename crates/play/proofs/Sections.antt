@@ -14,7 +14,7 @@ use Rattle.model.specs.Steps.{Step, act, one_by_one, steps_from, wrong_size, fre
 use Rattle.model.specs.declared.Answer.TheVariants.{Done}
 use Rattle.model.proofs.Choice.{order}
 use Rattle.model.proofs.Says.{get_d_fresh}
-use Rattle.model.proofs.Calls.{fresh-succeeds}
+use Rattle.model.proofs.Calls.{fresh_succeeds}
 use Rattle.demands.specs.Log.{after}
 use Rattle.archive.specs.declared.Reply.{Reply}
 use Rattle.archive.specs.Does.{meant, words_after, CallDoes}
@@ -131,5 +131,5 @@ fresh_holds c {r} {b} {u} D =
     let words : (n : ℕ) → length {A = ℕ} (replicate n 0) ≡ n = λ n. length-replicate n 0 in
     let right = right_words c (replicate 8192 0) (replicate 96 0) (words 8192) (words 96) in
     let E : CallDoes (replicate 96 0) r b u (outcome (Done 0) fresh) =
-    rw (fresh-succeeds (meant c (replicate 8192 0) (replicate 96 0)) right) at D in
+    rw (fresh_succeeds (meant c (replicate 8192 0) (replicate 96 0)) right) at D in
     record { control = E.control; arena = E.arena; table = E.table }

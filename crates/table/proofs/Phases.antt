@@ -17,13 +17,13 @@ module _ (tag c h w v : ℕ) where
 
   -- 2 to 5: an odd number writes, an even one reads
   module _ (p : tag ≡ 0 → ⊥) (q : tag ≡ 1 → ⊥) (r : tag ≤ 5) where
-    above-one : 1 < tag
-    above-one = search (arith, p, q)
+    above_one : 1 < tag
+    above_one = search (arith, p, q)
 
-    pub phase-writes : tag % 2 ≡ 1 → true ≡ is_phase tag c h w v
+    pub phase_writes : tag % 2 ≡ 1 → true ≡ is_phase tag c h w v
     unfolding is_phase
-    phase-writes e = simp (ne_eqb tag 0 p, lt-ltb 1 tag above-one, lt-ltb tag 6 (omega arith), eq-eqb _ _ e)
+    phase_writes e = simp (ne_eqb tag 0 p, lt-ltb 1 tag above_one, lt-ltb tag 6 (omega arith), eq-eqb _ _ e)
 
-    pub phase-reads : (tag % 2 ≡ 1 → ⊥) → eqb v 0 ≡ is_phase tag c h w v
+    pub phase_reads : (tag % 2 ≡ 1 → ⊥) → eqb v 0 ≡ is_phase tag c h w v
     unfolding is_phase
-    phase-reads e = simp (ne_eqb tag 0 p, lt-ltb 1 tag above-one, lt-ltb tag 6 (omega arith), ne_eqb _ _ e)
+    phase_reads e = simp (ne_eqb tag 0 p, lt-ltb 1 tag above_one, lt-ltb tag 6 (omega arith), ne_eqb _ _ e)
