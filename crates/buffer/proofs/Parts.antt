@@ -1,4 +1,4 @@
--- Parts behind one another: how long they are, and that laid one after the other they are laid together. Assumes nothing.
+-- Parts behind one another: how long they are, and that laid one after the other they are laid together.
 use mathlib.Core.Path.{◌≡◌, refl, sym, ap, ◌∙◌}
 use mathlib.Core.List.{List, [], ◌∷◌, ◌++◌, map, append_assoc}
 use Prim.Native.Nat.{ℕ, ◌+◌, ◌*◌}

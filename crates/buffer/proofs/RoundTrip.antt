@@ -1,6 +1,5 @@
 -- "One state has one buffer": what the bytes of a state mean is the state, and the bytes of what a buffer means are the buffer.
 -- Both by the parts in order: a part read from its own bytes is the part, and the parts read from all bytes are all bytes.
--- Assumes nothing.
 use mathlib.Core.Path.{◌≡◌, refl, sym, ap, ap₂, ◌∙◌}
 use mathlib.Core.Bool.{true}
 use mathlib.Core.List.{List, [], ◌∷◌, ◌++◌, map, append_assoc, append-nil}

@@ -1,0 +1,10 @@
+-- `buffer::move_out` meets its contract: five numbers, one behind the other.
+use Rattle.std.proofs.Common.{◌∙◌, [], ◌∷◌}
+use Rattle.buffer.proofs.Parts.{laid_numbers_lem}
+use Rattle.buffer.proofs.move_out.Goals as goal
+
+pub returns : goal.returns
+returns c =
+    let v = c.args.mv in
+    rw (c.put2-2.ensures, c.put2.ensures, c.put4-2.ensures, c.put4.ensures) at c.put4-3.ensures
+    ∙ laid_numbers_lem _ 640 ((4, v.stage) ∷ (4, v.meter) ∷ (2, v.from) ∷ (2, v.target) ∷ (4, v.copied) ∷ [])
