@@ -146,13 +146,13 @@ module _ (dir map : List ℕ) (v : Move) (arena seen : List ℕ) (s : Seen dir a
   -- the words of the map built and of the map decide the rest
   pub words_decide : IsMap map → free seen other.start other.cells ≡ true
       → every 16 (same_word (put_run seen other.start other.cells 1) map) ≡ R3 dir map v arena
-  words_decide hm f = says_same (says_as right same (says_words built map isMap hm)) (says_r3 dir map v arena)
+  words_decide hm f = says_same (says_as right same (says_words built map is_map_lem hm)) (says_r3 dir map v arena)
     where
       built : List ℕ
       built = put_run seen other.start other.cells 1
 
-      isMap : IsMap built
-      isMap = run_map seen other.start other.cells 1 s.map (omega arith)
+      is_map_lem : IsMap built
+      is_map_lem = run_map seen other.start other.cells 1 s.map (omega arith)
 
       at : (x : ℕ) → x < 1024 → used built x ≡ blocks_over dir v arena x
       at x hx = laid_at seen other.start other.cells x s.map small hx f ∙ all_blocks x hx
@@ -161,7 +161,7 @@ module _ (dir map : List ℕ) (v : Move) (arena seen : List ℕ) (s : Seen dir a
       right e x hx = sym (at x hx) ∙ ap (λ (m : List ℕ). used m x) e
 
       same : CellsRight dir map v arena → built ≡ map
-      same r = map_ext built map isMap hm (λ x hx. at x hx ∙ r x hx)
+      same r = map_ext built map is_map_lem hm (λ x hx. at x hx ∙ r x hx)
 
 -- how the code's values enter: a turn of the walk
 module _ (dir map : List ℕ) (v : Move) (arena seen : List ℕ) (i : ℕ) (len : length dir ≡ 256) (s : Seen dir arena i seen) (h : i < 256)

@@ -21,33 +21,33 @@ replica_last v arena h e = simp (lt-ltb 0 v.copied (omega arith), lt-ltb 1 v.cop
 module _ (dir : List ℕ) (v : Move) (arena : List ℕ) where
   -- the block of the move: its entry names a cell, and it is the one that the stage asks for
   module _ (p : entry dir v.meter ≡ none → ⊥) where
-    pub early-fits : entry dir v.meter ≡ v.from → leb (v.target + cells_at arena v.from) 1024 ≡ false
+    pub early_fits : entry dir v.meter ≡ v.from → leb (v.target + cells_at arena v.from) 1024 ≡ false
         → false ≡ early_right dir v arena
     unfolding early_right
-    early-fits e f = simp (ne_eqb _ _ p, eq-eqb _ _ e, f)
+    early_fits e f = simp (ne_eqb _ _ p, eq-eqb _ _ e, f)
 
-    pub early-last : entry dir v.meter ≡ v.from → leb (v.target + cells_at arena v.from) 1024 ≡ true
+    pub early_last : entry dir v.meter ≡ v.from → leb (v.target + cells_at arena v.from) 1024 ≡ true
         → replica_right v arena ≡ early_right dir v arena
     unfolding early_right
-    early-last e f = simp (ne_eqb _ _ p, eq-eqb _ _ e, f)
+    early_last e f = simp (ne_eqb _ _ p, eq-eqb _ _ e, f)
 
-    pub late-last : entry dir v.meter ≡ v.target → label arena v.from ≡ label arena v.target
+    pub late_last : entry dir v.meter ≡ v.target → label arena v.from ≡ label arena v.target
         → leb (v.from + cells_at arena v.from) 1024 ≡ late_right dir v arena
     unfolding late_right
-    late-last e f = simp (ne_eqb _ _ p, eq-eqb _ _ e, eq-eqb _ _ f)
+    late_last e f = simp (ne_eqb _ _ p, eq-eqb _ _ e, eq-eqb _ _ f)
 
   module _ (h : v.stage < 5) where
-    pub move-early : is_early v ≡ true → early_right dir v arena ≡ R2 dir v arena
+    pub move_early : is_early v ≡ true → early_right dir v arena ≡ R2 dir v arena
     unfolding R2
-    move-early e = simp (lt-ltb v.stage 5 h, e, early_not_late (stage_of v.stage) e, and_yes)
+    move_early e = simp (lt-ltb v.stage 5 h, e, early_not_late (stage_of v.stage) e, and_yes)
 
-    pub move-late : is_early v ≡ false → is_late v ≡ true → late_right dir v arena ≡ R2 dir v arena
+    pub move_late : is_early v ≡ false → is_late v ≡ true → late_right dir v arena ≡ R2 dir v arena
     unfolding R2
-    move-late e f = simp (lt-ltb v.stage 5 h, e, f)
+    move_late e f = simp (lt-ltb v.stage 5 h, e, f)
 
-    pub move-idle : is_early v ≡ false → is_late v ≡ false → true ≡ R2 dir v arena
+    pub move_idle : is_early v ≡ false → is_late v ≡ false → true ≡ R2 dir v arena
     unfolding R2
-    move-idle e f = simp (lt-ltb v.stage 5 h, e, f)
+    move_idle e f = simp (lt-ltb v.stage 5 h, e, f)
 
 pub numbers_last : (v : Move) → v.meter ≡ 0 → v.from ≡ 0 → v.target ≡ 0 → eqb v.copied 0 ≡ numbers_right idle v 0
 numbers_last v a b c = simp (eq-eqb _ _ a, eq-eqb _ _ b, eq-eqb _ _ c)

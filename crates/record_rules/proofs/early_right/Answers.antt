@@ -2,7 +2,7 @@
 use Rattle.std.proofs.Common.{sym, ◌∙◌}
 use borrow.Author.Tests.{eq-eqb, ne_eqb}
 use Rattle.model.specs.Rules.{early_right}
-use Rattle.record_rules.proofs.Ways.{early-fits, early-last}
+use Rattle.record_rules.proofs.Ways.{early_fits, early_last}
 use Rattle.record_rules.proofs.early_right.Goals as goal
 
 pub returns-then-c-eq-NONE : goal.returns-then-c-eq-NONE
@@ -15,13 +15,13 @@ returns-then-c-from c = simp (← c.entry_of-c.ensures, ne_eqb _ _ c.if-c-eq-NON
 
 pub returns-then-not-fits : goal.returns-then-not-fits
 returns-then-not-fits c =
-    early-fits c.args.dir.now c.args.mv c.args.arena.now
+    early_fits c.args.dir.now c.args.mv c.args.arena.now
     (λ z. c.if-c-eq-NONE.false (c.entry_of-c.ensures ∙ z)) (sym c.entry_of-c.ensures ∙ c.if-c-from.false)
     (rw c.lengths_at-n.ensures at (sym c.fits.ensures ∙ c.if-not-fits.true))
 
 pub returns : goal.returns
 returns c =
     c.replica_right.ensures
-    ∙ early-last c.args.dir.now c.args.mv c.args.arena.now
+    ∙ early_last c.args.dir.now c.args.mv c.args.arena.now
     (λ z. c.if-c-eq-NONE.false (c.entry_of-c.ensures ∙ z)) (sym c.entry_of-c.ensures ∙ c.if-c-from.false)
     (rw c.lengths_at-n.ensures at (sym c.fits.ensures ∙ c.if-not-fits.false))

@@ -2,7 +2,7 @@
 use Rattle.std.proofs.Common.{sym, ◌∙◌}
 use borrow.Author.Tests.{eq-eqb, ne_eqb}
 use Rattle.model.specs.Rules.{late_right}
-use Rattle.record_rules.proofs.Ways.{late-last}
+use Rattle.record_rules.proofs.Ways.{late_last}
 use Rattle.record_rules.proofs.late_right.Goals as goal
 
 pub returns-then-c-eq-NONE : goal.returns-then-c-eq-NONE
@@ -28,6 +28,6 @@ returns-then-label_at c =
 pub returns : goal.returns
 returns c =
     rw c.lengths_at-n.ensures at c.fits.ensures
-    ∙ late-last c.args.dir.now c.args.mv c.args.arena.now
+    ∙ late_last c.args.dir.now c.args.mv c.args.arena.now
     (λ z. c.if-c-eq-NONE.false (c.entry_of-c.ensures ∙ z)) (sym c.entry_of-c.ensures ∙ c.if-c-target.false)
     (sym c.label_at.ensures ∙ c.if-label_at.false ∙ c.label_at-2.ensures)
