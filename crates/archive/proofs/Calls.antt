@@ -1,5 +1,4 @@
 -- Each call, refused or done, is the model's call: refused nothing changes; done, the turns on the table's words are the model's steps.
--- Assumes nothing.
 use mathlib.Core.Path.{◌≡◌, refl, sym, ap, ◌∙◌}
 use mathlib.Core.Bool.{true, false}
 use mathlib.Core.List.{List, [], ◌∷◌}

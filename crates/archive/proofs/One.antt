@@ -1,4 +1,4 @@
--- "Two outcomes allowed by a contract are proved equal": a call's contract allows one reply and one memory. Assumes nothing.
+-- "Two outcomes allowed by a contract are proved equal": a call's contract allows one reply and one memory.
 use mathlib.Core.Path.{◌≡◌, sym, ap₂, ◌∙◌}
 use mathlib.Core.List.{List}
 use Prim.Native.Nat.{ℕ}

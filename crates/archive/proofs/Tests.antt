@@ -1,5 +1,5 @@
 -- The tests before a call, on words, are the model's on the rows that the words mean; a state that passes them is lent as the words of
--- its eight rows. Assumes nothing.
+-- its eight rows.
 use mathlib.Core.Path.{◌≡◌, refl, sym, ◌∙◌}
 use mathlib.Core.Logic.{◌≢◌, ⊎_elim}
 use mathlib.Core.Bool.{true, false, not}
