@@ -9,8 +9,8 @@ if [ "$(uname -m)" != x86_64 ]; then
     exit 1
 fi
 tests/tools.sh
-rt staticlib headend
-export TANGVRAK_LIB=$PWD/target/staticlib CARGO_TARGET_DIR=$PWD/build/rust
+(cd crates/headend && rt lib)
+export TANGVRAK_LIB=$PWD/crates/headend/out CARGO_TARGET_DIR=$PWD/build/rust
 (cd tests/rust && cargo build --offline --release --bin bench)
 grep -m 1 'model name' /proc/cpuinfo || true
 for _ in 1 2 3; do build/rust/release/bench; done

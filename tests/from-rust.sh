@@ -5,8 +5,8 @@ set -euo pipefail
 cd "$(dirname "${BASH_SOURCE[0]}")/.."
 
 tests/tools.sh
-rt staticlib headend
-export TANGVRAK_LIB=$PWD/target/staticlib CARGO_TARGET_DIR=$PWD/build/rust
+(cd crates/headend && rt lib)
+export TANGVRAK_LIB=$PWD/crates/headend/out CARGO_TARGET_DIR=$PWD/build/rust
 mkdir -p build
 
 case $(uname -m) in

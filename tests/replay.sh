@@ -1,12 +1,13 @@
 #!/usr/bin/env bash
 # The built program on each case of tests/replay: NAME.in on standard input, NAME.out on standard output, byte by byte. The outputs come
 # from the plain archive (tests/rust/plain), which shares no code with the program. Then the two are compared on random texts, good and
-# damaged. `rt check replay` builds the program; SEEDS says how many seeds, of four texts each.
+# damaged. `rt run` builds the program; SEEDS says how many seeds, of four texts each.
 set -euo pipefail
 cd "$(dirname "${BASH_SOURCE[0]}")/.."
 
-program=$PWD/target/bin/replay
-[ -x "$program" ] || { echo "no $program: run rt check replay first" >&2; exit 1; }
+(cd crates/replay && rt run <stdin >/dev/null)
+program=$PWD/crates/replay/out/replay
+[ -x "$program" ] || { echo "no $program: rt run did not build it" >&2; exit 1; }
 run=("$program")
 if [ "$(uname -m)" != x86_64 ]; then
     # the program is x86-64 code: the kit's emulator and loader, as `rt` itself runs it
