@@ -5,22 +5,13 @@ use mathlib.Core.Bool.{false, true}
 use mathlib.Core.List.{List, [], ◌∷◌}
 use Prim.Native.Nat.{ℕ}
 use lib.ListN.{length, set, replicate}
-use borrow.Author.Rules.{length_unmapped}
-use mir.Val.{Val}
-use denote.Laws.{Is}
 use Rattle.model.specs.declared.Row.{Row}
 use Rattle.model.specs.declared.Phase.TheVariants.{Resting}
 use Rattle.model.specs.declared.Answer.{Answer}
-use Rattle.model.specs.Choice.{All}
-use Rattle.model.specs.Rows.{FourHolds}
 use Rattle.model.proofs.Choice.{by_test}
-use Rattle.model.specs.contracts.Row as T
 use Rattle.table.specs.Words.{table_words, list_from, row_read, rows_read, put_row}
 use Rattle.table.proofs.FourHolds.{RowsOfFour}
 use Rattle.table.proofs.Rows.{rows_read_lem, put_row_lem}
-use Rattle.rows.specs.declared.Eight.{Eight}
-use Rattle.rows.specs.Eight.{rows_in}
-use Rattle.rows.specs.contracts.Eight as E
 use Rattle.archive.specs.Does.{is_refused, words_after}
 
 -- ninety-six zeros are the words of eight rows of zeros
@@ -48,29 +39,3 @@ pub all_read : (t : List ℕ) {a b c d e f g h : Row} → a ≡ row_read t 0 →
     → a ∷ b ∷ c ∷ d ∷ e ∷ f ∷ g ∷ h ∷ [] ≡ rows_read t
 unfolding list_from
 all_read t p0 p1 p2 p3 p4 p5 p6 p7 = rw (p0, p1, p2, p3, p4, p5, p6, p7) refl
-
--- the type of a row says that it has four holds
-four_row : (r : Row) (vs : List Val) → Is T.the_row r vs → FourHolds r
-four_row r vs is = length_unmapped ℕ r.holds 4 is.1.1.1.1.0.1.0.1
-
-pub four_eight : (e : Eight) (vs : List Val) → Is E.the_row e vs → All FourHolds (rows_in e)
-four_eight e vs is =
-    let rows = is.1.1 in (
-      four_row e.r0 _ rows.0,
-      (
-        four_row e.r1 _ rows.1.0,
-        (
-          four_row e.r2 _ rows.1.1.0,
-          (
-            four_row e.r3 _ rows.1.1.1.0,
-            (
-              four_row e.r4 _ rows.1.1.1.1.0,
-              (
-                four_row e.r5 _ rows.1.1.1.1.1.0,
-                (four_row e.r6 _ rows.1.1.1.1.1.1.0, (four_row e.r7 _ rows.1.1.1.1.1.1.1.0, tt)),
-              ),
-            ),
-          ),
-        ),
-      ),
-    )
