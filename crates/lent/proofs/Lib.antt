@@ -1,4 +1,1 @@
-pub mod Shared
-pub mod Locals
-pub mod Takes
 pub mod Lifts

@@ -35,8 +35,8 @@ module _ (c : Control) (a : List ℕ) (t : List Row) (e : Eight) (out : e ≡ ta
       by false h = k h
 
   module _ {g : State → Outcome} where
-    refused-table : Tests g → eqb (length t) 8 ≡ false → g (state c a t) ≡ refused (state c a t) 1
-    refused-table G h = G.by_one (state c a t) (wrong_length c a t h)
+    refused_table : Tests g → eqb (length t) 8 ≡ false → g (state c a t) ≡ refused (state c a t) 1
+    refused_table G h = G.by_one (state c a t) (wrong_length c a t h)
 
     pub lifted : Call g → (f : Eight) {r : Reply} {a' : List ℕ} {t' : List Row}
         → Does r a' (table_of (length t) f) (g (state c a (table_of (length t) e))) → t' ≡ put_back t f → Does r a' t' (g (state c a t))
@@ -50,15 +50,15 @@ module _ (c : Control) (a : List ℕ) (t : List Row) (e : Eight) (out : e ≡ ta
           table = q ∙ sym (put_eight t f h) ∙ sym (these_rows (length t) f h) ∙ d'.table;
         })
         (λ h. let d' = rw (refused_so G.tests c a e (length t) h) at d in
-        rw (refused-table G.tests h)
+        rw (refused_table G.tests h)
         (record { answer = d'.answer; control = d'.control; arena = d'.arena; table = q ∙ sym (put_other t f h) }))
 
-    pub look-lifted : Tests g → {r : Reply} → Looks r (g (state c a (table_of (length t) e))) → Looks r (g (state c a t))
-    look-lifted G d =
+    pub look_lifted : Tests g → {r : Reply} → Looks r (g (state c a (table_of (length t) e))) → Looks r (g (state c a t))
+    look_lifted G d =
         by_length
         (λ h. let d' = rw (taken_back t e out h) at d in record { answer = d'.answer; control = d'.control })
         (λ h. let d' = rw (refused_so G c a e (length t) h) at d in
-        rw (refused-table G h) (record { answer = d'.answer; control = d'.control }))
+        rw (refused_table G h) (record { answer = d'.answer; control = d'.control }))
 
   pub run_lifted : (ws slots : List ℕ) (f : Eight) {r : Reply} {a' l : List ℕ} {t' : List Row}
       → Runs r a' (table_of (length t) f) l (run_call (state c a (table_of (length t) e)) ws slots) → t' ≡ put_back t f
