@@ -6,6 +6,7 @@ use mathlib.Core.List.{List, [], ◌∷◌}
 use Prim.Native.Nat.{ℕ, ◌+◌, ◌*◌, ◌≤◌, ◌<◌}
 use native.Mathlib.Omega.{arith}
 use lib.ListN.{length, take, drop, length-set}
+use Rattle.std.proofs.lemmas.List.{take_all}
 use lib.Seq.{sets, sets-eq, take-append_seam, length-take-le}
 use Rattle.model.specs.declared.Control.{Control}
 use Rattle.model.specs.Choice.{total}
@@ -167,3 +168,10 @@ pub prints_script : (s before out : List ℕ) (r : ℕ) {m at k start : ℕ} →
 prints_script s before out r {m} {at} {k} {start} h e P =
     prints_by before out r (replay_text s) (P.page ∙ ap (written (page before 0)) (sym (replay_script s m at k start h e)))
     (replay_short s (sized_runs s m at k start e P.sized))
+
+-- a text that is too long is known by one byte more than the most
+pub taken_text : (s : List ℕ) → replay_text (take 65537 s) ≡ replay_text s
+taken_text s =
+    ⊎_elim (λ h. replay_too_long (take 65537 s) (rw (length-take-le 65537 s h) (omega arith)) ∙ sym (replay_too_long s (omega arith)))
+    (λ h. ap replay_text (take_all 65537 s (omega arith)))
+    (order 65536 (length s))

@@ -9,6 +9,8 @@ use Rattle.turns.specs.declared.Numbers.{Numbers}
 use Rattle.script.specs.Lines.{numbers_at}
 use Rattle.script.specs.Printing.{Page, page, written}
 use Rattle.script.specs.Replay.{admission_at, answer_lines, printed, admissions_run, steps_run}
+-- for the program, which knows `play` alone
+pub use Rattle.script.specs.Replay.{replay_text}
 use Rattle.script.specs.Sizes.{Short, Sized}
 use Rattle.play.specs.declared.Played.{Played}
 
