@@ -1,12 +1,12 @@
--- What the proofs of the exported calls cite: a wrong size, and what a call on what the bytes mean leaves of them. Assumes nothing.
+-- What the proofs of the exported calls cite: a wrong size, and what a call on what the bytes mean leaves of them.
 use mathlib.Core.Path.{◌≡◌, refl, sym, ap, ◌∙◌}
-use mathlib.Core.Bool.{Bool, true, false, not}
+use mathlib.Core.Bool.{Bool, true, false}
 use mathlib.Core.List.{List}
 use Prim.Native.Nat.{ℕ, ◌*◌, ◌/◌, ◌%◌, ◌≤◌}
 use lib.Dec.{eqb, leb}
 use lib.ListN.{length, take}
 use lib.Seq.{length-take-le}
-use borrow.Author.Tests.{eq-eqb, ne_eqb, eqb-true, leb-true, not-false}
+use borrow.Author.Tests.{eq-eqb, ne_eqb, eqb-true, leb-true}
 use Rattle.model.specs.declared.Control.{Control}
 use Rattle.model.specs.declared.Answer.{Answer}
 use Rattle.model.specs.declared.Answer.TheVariants.{Refused}
@@ -103,10 +103,10 @@ pub record RunFit (steps slots : ℕ) : Type 0 where
   pub whole : steps % 20 ≡ 0
   pub each : slots ≡ 8 * (steps / 20)
 
-pub run_fit : (steps slots : ℕ) {r : Bool} → r ≡ run_bytes_fit steps slots → not r ≡ false → RunFit steps slots
+pub run_fit : (steps slots : ℕ) {r : Bool} → r ≡ run_bytes_fit steps slots → r ≡ true → RunFit steps slots
 unfolding run_bytes_fit
-run_fit steps slots {r} e f =
-    let fits = sym e ∙ not-false r f in
+run_fit steps slots e f =
+    let fits = sym e ∙ f in
     let p = and_parts (leb steps 81920) (eqb (steps % 20) 0 and eqb slots (8 * (steps / 20))) fits in
     let q = and_parts (eqb (steps % 20) 0) (eqb slots (8 * (steps / 20))) p.1 in
     record {
