@@ -10,7 +10,7 @@ use lib.Seq.{get_or-set_same, get_or-set_other}
 use borrow.Author.Tests.{eqb-true, eqb-false, eq-eqb, ne_eqb, ltb-false, not-false}
 use Rattle.model.specs.declared.Row.{Row}
 use Rattle.model.specs.declared.Move.{Move}
-use Rattle.model.specs.Arena.{cells, words, none, start, word, header, label, new_record, laid, lowest_run, put_run}
+use Rattle.model.specs.Arena.{cells, words, none, start, word, header, new_record, laid, lowest_run, put_run}
 use Rattle.model.specs.State.{stage_of, entry, State}
 use Rattle.model.specs.Steps.{Step, ADMIT, refusals}
 use Rattle.model.proofs.ByKind.{by_kind}

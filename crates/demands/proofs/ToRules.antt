@@ -11,7 +11,7 @@ use Rattle.model.specs.declared.Access.{Access}
 use Rattle.model.specs.declared.Phase.{Phase}
 use Rattle.model.specs.declared.Row.{Row}
 use Rattle.model.specs.declared.Move.{Move}
-use Rattle.model.specs.Arena.{cells, words, none, header, target_of, label, cells_at, words_at, used}
+use Rattle.model.specs.Arena.{cells, words, none, header, target_of, cells_at, words_at, used}
 use Rattle.model.specs.Rows.{hold_of, hold, fresh_row, FourHolds}
 use Rattle.model.specs.State.{Stage, idle, first_barrier, copying, second_barrier, third_barrier, stage_of, in_hand, no_move, entry, State, Sizes}
 use Rattle.model.specs.Rules.{covers, flag_up}

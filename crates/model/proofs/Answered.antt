@@ -2,7 +2,7 @@
 -- changes nothing. Assumes nothing.
 use mathlib.Core.Path.{◌≡◌, refl}
 use mathlib.Core.Bool.{true, false, not}
-use mathlib.Core.List.{List, [], ◌∷◌, ◌++◌}
+use mathlib.Core.List.{List, [], ◌∷◌}
 use Prim.Native.Nat.{ℕ, ◌≤◌}
 use native.Mathlib.Omega.{arith}
 use lib.Dec.{T, eqb, leb, leb→le}
@@ -13,7 +13,7 @@ use Rattle.model.specs.declared.Access.TheVariants.{Read, Write}
 use Rattle.model.specs.declared.Stepped.{Stepped}
 use Rattle.model.specs.declared.Answer.{Answer}
 use Rattle.model.specs.declared.Answer.TheVariants.{Done}
-use Rattle.model.specs.Choice.{◌and◌, Refusal, ◌if◌, refuse}
+use Rattle.model.specs.Choice.{Refusal, ◌if◌, refuse}
 use Rattle.model.specs.Arena.{header, flagged, flag_of, words_at, fill}
 use Rattle.model.specs.Rows.{busy, hold, all_passed}
 use Rattle.model.specs.State.{Stage, idle, first_barrier, copying, second_barrier, third_barrier, stage_of, in_hand, rise, State}

@@ -9,7 +9,7 @@ use lib.Dec.{eqb, ltb, leb}
 use lib.ListN.{length, get_or, get_or-eq_default}
 use borrow.Author.Tests.{eqb-true, ltb-true, lt-ltb, le-ltb, leb-true}
 use Rattle.model.specs.Choice.{pick, ◌and◌, every, all}
-use Rattle.model.specs.Steps.{Name, ADMIT, RETIRE, BEGIN, ADVANCE, ATTACH, DETACH, OPEN, DROP, READ, WRITE, GO, REST, UNKNOWN}
+use Rattle.model.specs.Steps.{Name, UNKNOWN}
 use Rattle.model.specs.Steps.{NOBODY, keeper_codes, client_codes, named}
 use Rattle.model.specs.Table.{code_of}
 use Rattle.model.proofs.Choice.{order, clash, by_test, and_parts}
