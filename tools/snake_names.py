@@ -44,7 +44,7 @@ def defined():
     """Each name that a file of specs/ or proofs/ declares, with the files; a walk's own names (Proof.antt) are the check's."""
     found = collections.defaultdict(set)
     for path in files(".antt"):
-        if os.path.basename(path) in ("Proof.antt", "Answers.antt", "Invariants.antt"):
+        if "/specs/" not in path and os.path.basename(path) in ("Proof.antt", "Answers.antt", "Invariants.antt"):
             continue
         for line in text_of(path).split("\n"):
             if line.startswith("--"):
@@ -57,10 +57,11 @@ def defined():
             if not m:
                 continue
             for name in m[3].split():
-                if m[1] and len(m[1]) != 2 and not re.search(r"[a-z]-|[a-z][A-Z]", name):
+                inner = len(m[1]) > 2
+                if inner and not re.search(r"[a-z]-|[a-z][A-Z]", name):
                     continue
                 if NAME.fullmatch(name) and name not in ("--", "record", "data", "pub"):
-                    found[name].add(path)
+                    found[name].add(("" if inner else "/top/") + path)
     return found
 
 
@@ -72,7 +73,8 @@ def renamed(found):
     new = {}
     for plain, names in sorted(together.items()):
         def rank(n):
-            return (not any("/specs/" in p for p in found[n]), n != plain, "-" in n, n)
+            at = " ".join(found[n])
+            return ("/specs/" not in at, "/top/" not in at, n != plain, "-" in n, n)
         first, *rest = sorted(names, key=rank)
         new[first] = plain
         for n in rest:
