@@ -19,7 +19,7 @@ while IFS= read -r reference; do
     IFS=', ' read -r -a names <<<"${reference#*: }"
     for name in "${names[@]}"; do
         statements=$((statements + 1))
-        grep -qE "^ *((unfoldable|abbrev|pub|record|data|fn|extern|\"C\") )*$name( |:|\(|$)" "$file" ||
+        grep -qE "^ *((unfoldable|abbrev|pub|record|data|fn|extern|\"C\") )*$name( |:|\(|<|$)" "$file" ||
             complain "names $name in $file, which does not declare it"
     done
 done < <(grep -oE '`[a-z_]+/(src|specs|proofs)/[A-Za-z_/]+\.(antt|rt): [^`]+`' docs/PROOFS.md | tr -d '`')
