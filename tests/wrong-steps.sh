@@ -57,7 +57,7 @@ fi
 errors=$(grep -E '^\./proofs/[A-Za-z]+\.antt:[0-9]+:[0-9]+: error: ' "$log" | grep -vE 'declarations? that depends? on' || true)
 failed=$(sed -nE 's/^\.\/proofs\/([A-Za-z]+)\.antt:[0-9:]+ error: `([^`]+)`: .*/\1 \2/p' <<<"$errors" | sort -u | paste -sd,)
 odd=$(grep -vE 'error: `[^`]+`: ' <<<"$errors" || true)
-if ! sed '/^rt: .* for demands$/,$d' "$log" | grep -q '^logic=proved' || [ -z "$failed" ] || [ -n "$odd" ]; then
+if ! grep -q '^logic=proved' < <(sed '/^rt: .* for demands$/,$d' "$log") || [ -z "$failed" ] || [ -n "$odd" ]; then
     echo "$label: refused, but not by a theorem of demands:"
     grep -m 3 -E 'error|rt:' "$log" || tail -n 3 "$log"
     exit 1

@@ -5,7 +5,8 @@ usage: python3 tools/snake_names.py            at the top of a checkout, right a
 
 Functions of src/, exported C names, types, modules, strings, inputs and outputs keep their names, and so do the constructors ADMIT ..
 NOBODY, which are written as the specification writes the steps (in snake case `admit` would fall together with what the step does).
-Where two names fall together, the definition (of specs/, or the one in camel case) takes the plain name, and the lemma gets `_lem` behind it.
+Where two names fall together, the definition (of specs/, or the one in camel case) takes the plain name, and the lemma gets `_lem` behind it;
+two names of specs/ that no file has both are both plain.
 It prints how many names and files it changed, and each pair that fell together.
 """
 
@@ -70,7 +71,7 @@ def renamed(found):
     together = collections.defaultdict(set)
     for name in found:
         together[snake(name)].add(name)
-    new = {}
+    new, written = {}, [set(NAME.findall(text_of(p))) for p in files((".antt", ".rt"))]
     for plain, names in sorted(together.items()):
         def rank(n):
             at = " ".join(found[n])
@@ -78,8 +79,9 @@ def renamed(found):
         first, *rest = sorted(names, key=rank)
         new[first] = plain
         for n in rest:
-            new[n] = plain + "_lem"
-            print(f"fell together: {first} is {plain}, {n} is {plain}_lem")
+            apart = "/specs/" in " ".join(found[n]) and not any({first, n} <= names for names in written)
+            new[n] = plain if apart else plain + "_lem"
+            print(f"fell together: {first} is {plain}, {n} is {new[n]}")
     new = {a: b for a, b in new.items() if a != b}
     for path in files((".antt", ".rt")):
         text = text_of(path)

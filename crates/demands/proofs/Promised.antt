@@ -56,7 +56,7 @@ pub demand3 : Demand3
 demand3 l = (
   record {
     slot_swaps = rw (history_is l) (slot_swaps_at_most_begun l);
-    all_swaps_lem = rw (history_is l) (called_off_at_most_swaps l, all_swaps_at_most_begun l);
+    all_swaps = rw (history_is l) (called_off_at_most_swaps l, all_swaps_at_most_begun l);
     accesses = each_line AccessPrice access_heard l;
     moves = each_line MovePrice move_price l;
   },

@@ -107,7 +107,7 @@ pub record MovePrice (x : Line) (before : Log) : Type 0 where
 
 pub record Price (l : Log) : Type 0 where
   pub slot_swaps : SlotSwaps l
-  pub all_swaps_lem : AllSwaps l
+  pub all_swaps : AllSwaps l
   pub accesses : EachLine AccessPrice l
   pub moves : EachLine MovePrice l
 

@@ -31,7 +31,7 @@ fn read_full<R: Read>(input: &mut R, buffer: &mut [u8]) -> io::Result<usize>
     Err(io::Error::new(ErrorKind::TimedOut, "gave up reading after 2^64 tries"))
 }
 
-// The whole program on any reader and writer: what it writes is what the text says, all of it.
+// The whole program on any reader and writer. After Ok, where the bytes to be read are known: what is written is what they say, all of it.
 fn run<R: Read + Drop, W: Write>(mut input: R, output: &mut W) -> io::Result<()>
     ensures { OnOk result (IfSome (R.remaining input) (λ text.
         Appends (W.contents output.old) (W.contents output.new) (replay_text text))) }
