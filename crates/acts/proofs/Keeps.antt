@@ -1,4 +1,5 @@
 -- What a client's turn leaves alone in its row: so storing what a step may change is storing the row. Assumes nothing.
+use Rattle.std.specs.Prelude.{None}
 use mathlib.Core.Path.{◌≡◌, refl, sym, ap, ap₂, ◌∙◌}
 use mathlib.Core.List.{List}
 use Prim.Native.Nat.{ℕ}
@@ -11,7 +12,6 @@ use Rattle.model.specs.declared.Phase.{Phase}
 use Rattle.model.specs.declared.Phase.TheVariants.{Resting, Ready, Waiting}
 use Rattle.model.specs.declared.Answer.{Answer}
 use Rattle.model.specs.declared.Answer.TheVariants.{Refused}
-use Rattle.model.specs.declared.Change.TheVariants.{Nothing}
 use Rattle.model.specs.declared.Row.{Row}
 use Rattle.model.specs.declared.Stepped.{Stepped}
 use Rattle.model.specs.Arena.{none, header, flagged, flag_of}
@@ -34,11 +34,11 @@ turn_keeps P l r o f p = unless_refused P l (refused_turn r) o f (λ _. p)
 
 -- no word of the arena changes; of the row the phase alone; the swaps and the phase
 abbrev OnlyRow : Stepped → Type 0
-OnlyRow o = o.change ≡ Nothing
+OnlyRow o = o.change ≡ None
 
 record OnlyPhase (r : Row) (o : Stepped) : Type 0 where
   row : o.row ≡ with_phase r o.row.phase
-  change : o.change ≡ Nothing
+  change : o.change ≡ None
 
 record OnlySwap (r : Row) (o : Stepped) : Type 0 where
   row : o.row ≡ with_phase (with_swaps r o.row.swaps) o.row.phase

@@ -12,7 +12,9 @@ use Rattle.model.specs.declared.Lengths.{Lengths}
 use Rattle.model.specs.declared.Move.{Move}
 use Rattle.model.specs.Choice.{pick, every, total}
 use Rattle.model.specs.Arena.{of_kind, none, label, kind_of, cells_at, used, put_run, IsMap}
-use Rattle.model.specs.State.{Stage, idle, first_barrier, copying, second_barrier, third_barrier, stage_of, entry}
+use Rattle.model.specs.declared.Stage.{Stage}
+use Rattle.model.specs.declared.Stage.TheVariants.{NoMove, FirstBarrier, Copying, SecondBarrier, ThirdBarrier}
+use Rattle.model.specs.State.{stage_of, entry}
 use Rattle.model.specs.Rules.{early, late, covers, record_covers, other_covers, blocks_over, R3}
 use Rattle.model.proofs.Choice.{clash}
 use Rattle.model.proofs.Says.{Says, says_as, says_same, says_every, says_eq, refute}
@@ -38,11 +40,11 @@ module _ (v : Move) (arena : List ℕ) where
   other_picked : (g : Stage)
       → other_block g v arena
       ≡ pick (early g) (block v.target (cells_at arena v.from)) (pick (late g) (block v.from (cells_at arena v.from)) (block 0 0))
-  other_picked idle = refl
-  other_picked first_barrier = refl
-  other_picked copying = refl
-  other_picked second_barrier = refl
-  other_picked third_barrier = refl
+  other_picked NoMove = refl
+  other_picked FirstBarrier = refl
+  other_picked Copying = refl
+  other_picked SecondBarrier = refl
+  other_picked ThirdBarrier = refl
 
   pub other_early : (g : Stage) → early g ≡ true → block v.target (cells_at arena v.from) ≡ other_block g v arena
   other_early g e = rw (other_picked g, e)
@@ -55,18 +57,18 @@ module _ (v : Move) (arena : List ℕ) where
 
   -- it covers what the rule says, and fits a mask
   other_covers_lem : (g : Stage) (x : ℕ) → other_covers g v arena x ≡ covers (other_block g v arena).start (other_block g v arena).cells x
-  other_covers_lem idle x = sym (covers_out 0 0 x (λ p q. omega arith))
-  other_covers_lem first_barrier x = refl
-  other_covers_lem copying x = refl
-  other_covers_lem second_barrier x = refl
-  other_covers_lem third_barrier x = refl
+  other_covers_lem NoMove x = sym (covers_out 0 0 x (λ p q. omega arith))
+  other_covers_lem FirstBarrier x = refl
+  other_covers_lem Copying x = refl
+  other_covers_lem SecondBarrier x = refl
+  other_covers_lem ThirdBarrier x = refl
 
   pub other_small : (g : Stage) → (other_block g v arena).cells < 64
-  other_small idle = omega arith
-  other_small first_barrier = cells_small arena v.from
-  other_small copying = cells_small arena v.from
-  other_small second_barrier = cells_small arena v.from
-  other_small third_barrier = cells_small arena v.from
+  other_small NoMove = omega arith
+  other_small FirstBarrier = cells_small arena v.from
+  other_small Copying = cells_small arena v.from
+  other_small SecondBarrier = cells_small arena v.from
+  other_small ThirdBarrier = cells_small arena v.from
 
 -- the map of the first i entries' records
 pub record Seen (dir arena : List ℕ) (i : ℕ) (seen : List ℕ) : Type 0 where

@@ -4,7 +4,8 @@ use Rattle.std.specs.Int.Bits.{bit_and, bit_or}
 use Rattle.model.specs.declared.Move.{Move}
 use Rattle.model.specs.Choice.{◌and◌}
 use Rattle.model.specs.Arena.{cells_at}
-use Rattle.model.specs.State.{Stage, idle, first_barrier, copying, second_barrier, third_barrier}
+use Rattle.model.specs.declared.Stage.{Stage}
+use Rattle.model.specs.declared.Stage.TheVariants.{NoMove, FirstBarrier, Copying, SecondBarrier, ThirdBarrier}
 use Rattle.blocks.specs.declared.Block.{Block}
 use Rattle.cells.specs.Words.{low_mask, high_mask}
 
@@ -32,8 +33,8 @@ block c n = record { start = c; cells = n }
 
 -- "the move's other block"; with no move in hand a block of no cells
 abbrev pub other_block : Stage → Move → List ℕ → Block
-other_block idle v arena = block 0 0
-other_block first_barrier v arena = block v.target (cells_at arena v.from)
-other_block copying v arena = block v.target (cells_at arena v.from)
-other_block second_barrier v arena = block v.target (cells_at arena v.from)
-other_block third_barrier v arena = block v.from (cells_at arena v.from)
+other_block NoMove v arena = block 0 0
+other_block FirstBarrier v arena = block v.target (cells_at arena v.from)
+other_block Copying v arena = block v.target (cells_at arena v.from)
+other_block SecondBarrier v arena = block v.target (cells_at arena v.from)
+other_block ThirdBarrier v arena = block v.from (cells_at arena v.from)

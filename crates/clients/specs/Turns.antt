@@ -1,10 +1,9 @@
 -- A client's turn: its step refused by the lowest number that applies, or done; on its own row and the arena.
-use Rattle.std.specs.Prelude.{ℕ, List}
+use Rattle.std.specs.Prelude.{ℕ, List, None}
 use Rattle.model.specs.declared.Access.{Access}
 use Rattle.model.specs.declared.Access.TheVariants.{Read, Write}
 use Rattle.model.specs.declared.Row.{Row}
 use Rattle.model.specs.declared.Answer.TheVariants.{Refused}
-use Rattle.model.specs.declared.Change.TheVariants.{Nothing}
 use Rattle.model.specs.declared.Stepped.{Stepped}
 use Rattle.model.specs.Rows.{hold_of, word_of}
 use Rattle.model.specs.ClientSteps.{stepped, attach, detach, open_hold, drop_hold, load_header, go, rest}
@@ -14,7 +13,7 @@ use Rattle.model.specs.Steps.{Name, ATTACH, DETACH, OPEN, DROP, READ, WRITE, GO,
 
 -- "All memory and the control record are then as before, and the value is 0."
 abbrev pub refused_turn : Row → ℕ → Stepped
-refused_turn r n = stepped r Nothing (Refused n)
+refused_turn r n = stepped r None (Refused n)
 
 unfoldable pub turn : List Refusal → Row → Stepped → Stepped
 turn l r o = refuse l (refused_turn r) o

@@ -10,7 +10,7 @@ ghost use Rattle.model.specs.Choice.{given};
 ghost use Rattle.model.specs.Refusals.{rest_refusals, open_refusals, drop_refusals, access_refusals};
 ghost use Rattle.clients.specs.Turns.{refused_turn, attach_turn, detach_turn, open_turn, drop_turn, access_turn, go_turn, rest_turn};
 
-use model::{Access, Answer, Change, Phase, Row, Stepped};
+use model::{Access, Answer, Phase, Put, Row, Stepped};
 use row::{access_of, choose, hold_of, is_busy, set_hold, with_phase};
 
 // "each empty (65535) or a cell"
@@ -22,7 +22,7 @@ fn done(row: Row) -> Stepped
 {
     Stepped {
         row,
-        change: Change::Nothing,
+        change: None,
         answer: Answer::Done(0),
     }
 }
@@ -32,7 +32,7 @@ fn refused(row: Row, n: u32) -> Stepped
 {
     Stepped {
         row,
-        change: Change::Nothing,
+        change: None,
         answer: Answer::Refused(n),
     }
 }
@@ -162,13 +162,13 @@ fn at_header(row: Row, x: Access, cell: u32, h: u32) -> Stepped
     if header.flag {
         Stepped {
             row: with_phase(row, Phase::Waiting(cell, x)),
-            change: Change::Nothing,
+            change: None,
             answer: Answer::WaitsOn(cell),
         }
     } else {
         Stepped {
             row: with_phase(row, Phase::Ready(header.target, x)),
-            change: Change::Nothing,
+            change: None,
             answer: Answer::ReadyAt(header.target),
         }
     }
@@ -218,17 +218,17 @@ fn swap(arena: &[u32], row: Row, cell: u32, x: Access) -> Stepped
     if record::is_flagged(h, cell) {
         Stepped {
             row: with_swap(row, Phase::Ready(cell, x)),
-            change: Change::Put {
+            change: Some(Put {
                 at: record::place(cell, 0),
                 word: record::pack(cell, false),
-            },
+            }),
             answer: Answer::SwapWon,
         }
     } else {
         let header = record::unpack(h);
         Stepped {
             row: with_swap(row, Phase::Ready(header.target, x)),
-            change: Change::Nothing,
+            change: None,
             answer: Answer::SwapLost,
         }
     }
@@ -241,7 +241,7 @@ fn finish(arena: &[u32], row: Row, cell: u32, x: Access) -> Stepped
     match x {
         Access::Read { hold: _, word } => Stepped {
             row: with_phase(row, Phase::Resting),
-            change: Change::Nothing,
+            change: None,
             answer: Answer::Got(record::load(arena, record::payload_place(cell, word))),
         },
         Access::Write {
@@ -250,10 +250,10 @@ fn finish(arena: &[u32], row: Row, cell: u32, x: Access) -> Stepped
             value,
         } => Stepped {
             row: with_phase(row, Phase::Resting),
-            change: Change::Put {
+            change: Some(Put {
                 at: record::payload_place(cell, word),
                 word: value,
-            },
+            }),
             answer: Answer::Written,
         },
     }

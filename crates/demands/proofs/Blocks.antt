@@ -8,7 +8,9 @@ use lib.Dec.{T}
 use lib.ListN.{length}
 use Rattle.model.specs.declared.Move.{Move}
 use Rattle.model.specs.Arena.{cells, words, none, header, plain, flagged, label, kind_of, IsMap}
-use Rattle.model.specs.State.{Stage, idle, first_barrier, copying, second_barrier, third_barrier, stage_of, no_move, entry}
+use Rattle.model.specs.declared.Stage.{Stage}
+use Rattle.model.specs.declared.Stage.TheVariants.{NoMove, FirstBarrier, Copying, SecondBarrier, ThirdBarrier}
+use Rattle.model.specs.State.{stage_of, no_move, entry}
 use Rattle.model.specs.Rules as rules
 use Rattle.model.proofs.ByKind.{Real, by_kind}
 use Rattle.demands.proofs.Stages.{first, First, not_both}
@@ -18,27 +20,27 @@ use Rattle.demands.proofs.Inv.{HoldOk, empty, here, was, EntryOk, Sides, early, 
 
 -- R5 of a move v at stage g whose record has z words
 pub copied_le : (g : Stage) (v : Move) (z : ℕ) → T (rules.early g) → NumbersAt g v z → v.copied ≤ z
-copied_le idle v z l k = absurd l
-copied_le first_barrier v z l k = omega arith
-copied_le copying v z l k = omega arith
-copied_le second_barrier v z l k = omega arith
-copied_le third_barrier v z l k = absurd l
+copied_le NoMove v z l k = absurd l
+copied_le FirstBarrier v z l k = omega arith
+copied_le Copying v z l k = omega arith
+copied_le SecondBarrier v z l k = omega arith
+copied_le ThirdBarrier v z l k = absurd l
 
 first_none : (g : Stage) (v : Move) (z : ℕ) → T (first g) → NumbersAt g v z → v.copied ≡ 0
-first_none idle v z l k = absurd l
-first_none first_barrier v z l k = k
-first_none copying v z l k = absurd l
-first_none second_barrier v z l k = absurd l
-first_none third_barrier v z l k = absurd l
+first_none NoMove v z l k = absurd l
+first_none FirstBarrier v z l k = k
+first_none Copying v z l k = absurd l
+first_none SecondBarrier v z l k = absurd l
+first_none ThirdBarrier v z l k = absurd l
 
 -- the words of a record matter only while a move is in hand
 pub numbers_same : (g : Stage) (v : Move) (z z' : ℕ) → (T (rules.early g) → z ≡ z') → (T (rules.late g) → z ≡ z') → NumbersAt g v z
     → NumbersAt g v z'
-numbers_same idle v z z' e f k = k
-numbers_same first_barrier v z z' e f k = k
-numbers_same copying v z z' e f k = omega (arith, e tt)
-numbers_same second_barrier v z z' e f k = k ∙ e tt
-numbers_same third_barrier v z z' e f k = k ∙ f tt
+numbers_same NoMove v z z' e f k = k
+numbers_same FirstBarrier v z z' e f k = k
+numbers_same Copying v z z' e f k = omega (arith, e tt)
+numbers_same SecondBarrier v z z' e f k = k ∙ e tt
+numbers_same ThirdBarrier v z z' e f k = k ∙ f tt
 
 -- with no move in hand only the records and the map say something
 pub still : {X : Type 0} {dir map arena : List ℕ} {val : ℕ → ℕ → ℕ} {kind own : ℕ → ℕ} → length dir ≡ 256 → length arena ≡ 8192 → IsMap map

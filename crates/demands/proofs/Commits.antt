@@ -12,7 +12,8 @@ use Rattle.model.specs.declared.Row.{Row}
 use Rattle.model.specs.declared.Move.{Move}
 use Rattle.model.specs.Arena.{cells, none, place, word, header, plain, flagged}
 use Rattle.model.specs.Rows.{cleared}
-use Rattle.model.specs.State.{second_barrier, stage_of, rise, entry, State}
+use Rattle.model.specs.declared.Stage.TheVariants.{SecondBarrier}
+use Rattle.model.specs.State.{stage_of, rise, entry, State}
 use Rattle.model.specs.KeeperSteps.{commit}
 use Rattle.model.specs.Rules.{is_early}
 use Rattle.model.proofs.Choice.{same_or_not}
@@ -182,13 +183,13 @@ module _ {X : Type 0} {dir map : List ℕ} {v : Move} {arena : List ℕ} {val : 
           (λ (y : m ≢ v.meter). at_entry (old_entry m y ∙ e)) (same_or_not m v.meter)
       new_place (was y _ _) n (at_entry e) = absurd (not_both v l y)
 
-pub commit_inv : {X : Type 0} (s : State) (g : Account) → Inv X s g → stage_of s.control.mv.stage ≡ second_barrier
+pub commit_inv : {X : Type 0} (s : State) (g : Account) → Inv X s g → stage_of s.control.mv.stage ≡ SecondBarrier
     → header s.arena s.control.mv.from ≡ flagged s.control.mv.from → Inv X (commit s).next g
 commit_inv {X} s g I e flag =
     let v = s.control.mv in
     let l : Early v = rw e tt in
     let z = home_real I.core (early l) in
-    let all : v.copied ≡ 8 * cells (g.kind v.meter) = omega (arith, count_at s g I second_barrier e) in
+    let all : v.copied ≡ 8 * cells (g.kind v.meter) = omega (arith, count_at s g I SecondBarrier e) in
     let beyond : First v → ⊥ = λ y. rw e at y in
     let r7 = I.r7 in
     let now = one_yes (says_holds (is_early v)) l in

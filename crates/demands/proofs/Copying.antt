@@ -14,7 +14,9 @@ use Rattle.model.specs.declared.Move.{Move}
 use Rattle.model.specs.Choice.{one}
 use Rattle.model.specs.Arena.{cells, words, place, word, header, plain, label, label_of, words_at}
 use Rattle.model.specs.Rows.{fresh_row, with_passed, cleared, all_passed}
-use Rattle.model.specs.State.{Stage, first_barrier, copying, stage_of, in_hand, rise, entry, State}
+use Rattle.model.specs.declared.Stage.{Stage}
+use Rattle.model.specs.declared.Stage.TheVariants.{FirstBarrier, Copying}
+use Rattle.model.specs.State.{stage_of, in_hand, rise, entry, State}
 use Rattle.model.specs.KeeperSteps.{start_copying, replica_word, copy_word}
 use Rattle.model.specs.Steps.{Step, ADVANCE}
 use Rattle.model.specs.Rules as rules
@@ -180,10 +182,10 @@ module _ {X : Type 0} (s : State) (g : Account) (I : Inv X s g) where
   r7_on l k on =
       omega (arith, I.r7, one_yes (says_holds (rules.is_early s.control.mv)) l, one_yes (says_holds (rules.early (stage_of k))) on)
 
-  pub first_inv : stage_of s.control.mv.stage ≡ first_barrier → all_passed s.table ≡ true → Inv X (start_copying s).next g
+  pub first_inv : stage_of s.control.mv.stage ≡ FirstBarrier → all_passed s.table ≡ true → Inv X (start_copying s).next g
   first_inv e p =
       let l : Early s.control.mv = rw e tt in
-      let none_yet : s.control.mv.copied ≡ 0 = count_at first_barrier e in
+      let none_yet : s.control.mv.copied ≡ 0 = count_at FirstBarrier e in
       let z = home_real I.core (early l) in
       record {
         own = I.own;
@@ -196,12 +198,12 @@ module _ {X : Type 0} (s : State) (g : Account) (I : Inv X s g) where
             (λ _. passed_get s.table p i) (I.rows i);
       }
 
-  pub copy_inv : (t : Step) → stage_of s.control.mv.stage ≡ copying → Good X ADVANCE g t (copy_word s)
+  pub copy_inv : (t : Step) → stage_of s.control.mv.stage ≡ Copying → Good X ADVANCE g t (copy_word s)
   unfolding copy_word
   copy_inv t e =
       let l : Early v = rw e tt in
       let z = home_real I.core (early l) in
-      let more : v.copied < 8 * cells (g.kind v.meter) = omega (arith, count_at copying e) in
+      let more : v.copied < 8 * cells (g.kind v.meter) = omega (arith, count_at Copying e) in
       let up : rise v.copied ≡ suc v.copied = rise_is v.copied 64 (omega arith) (omega arith) in
       let size : words_at s.arena v.from ≡ words (g.kind v.meter) = ap words (from_kind I.core (early l)) in
       let core : (k : ℕ) → T (rules.early (stage_of k))

@@ -20,7 +20,9 @@ use Rattle.model.specs.declared.Move.{Move}
 use Rattle.model.specs.declared.Stepped.{Stepped}
 use Rattle.model.specs.Arena.{cells, none, place, word, header, flagged, flag_of, cells_at, words_at, lowest_run}
 use Rattle.model.specs.Rows.{hold_of, word_of, is_write, busy, hold, clear_marks, all_passed, fresh_row}
-use Rattle.model.specs.State.{Stage, idle, first_barrier, copying, second_barrier, third_barrier, stage_of, rise, entry, State, with_arena}
+use Rattle.model.specs.declared.Stage.{Stage}
+use Rattle.model.specs.declared.Stage.TheVariants.{NoMove, FirstBarrier, Copying, SecondBarrier, ThirdBarrier}
+use Rattle.model.specs.State.{stage_of, rise, entry, State, with_arena}
 use Rattle.model.specs.State.{with_row, number, value, Outcome, outcome}
 use Rattle.model.specs.KeeperSteps.{admit, retire, begin, barrier, start_copying, copied, copy_word, commit, call_off, settle, give_back}
 use Rattle.model.specs.KeeperSteps.{advance}
@@ -63,18 +65,18 @@ pub data Kept (s : State) (t : Step) : Answer → State → Type 0 where
   retires : (m c : ℕ) → Kept s t (Done 0) (retire s m c).next
   begins : (c d : ℕ) → Idle s.control.mv → rise s.control.begun ≡ suc s.control.begun
       → header (set s.arena (place c 0) (flagged c)) c ≡ flagged c → Kept s t (Begun d) (begin s t.a c d).next
-  starts : stage_of s.control.mv.stage ≡ first_barrier → s.control.mv.copied ≡ 0 → Kept s t CopyingStarts (start_copying s).next
-  copies : stage_of s.control.mv.stage ≡ copying → rise s.control.mv.copied ≡ suc s.control.mv.copied
-      → header (copied s copying s.table).next.arena s.control.mv.from ≡ old_header s
-      → Kept s t (Copied (rise s.control.mv.copied)) (copied s copying s.table).next
-  fills : stage_of s.control.mv.stage ≡ copying → rise s.control.mv.copied ≡ suc s.control.mv.copied
-      → header (copied s copying s.table).next.arena s.control.mv.from ≡ old_header s
-      → Kept s t (Copied (rise s.control.mv.copied)) (copied s second_barrier (clear_marks s.table)).next
-  commits : stage_of s.control.mv.stage ≡ second_barrier → rise s.control.committed ≡ suc s.control.committed
+  starts : stage_of s.control.mv.stage ≡ FirstBarrier → s.control.mv.copied ≡ 0 → Kept s t CopyingStarts (start_copying s).next
+  copies : stage_of s.control.mv.stage ≡ Copying → rise s.control.mv.copied ≡ suc s.control.mv.copied
+      → header (copied s Copying s.table).next.arena s.control.mv.from ≡ old_header s
+      → Kept s t (Copied (rise s.control.mv.copied)) (copied s Copying s.table).next
+  fills : stage_of s.control.mv.stage ≡ Copying → rise s.control.mv.copied ≡ suc s.control.mv.copied
+      → header (copied s Copying s.table).next.arena s.control.mv.from ≡ old_header s
+      → Kept s t (Copied (rise s.control.mv.copied)) (copied s SecondBarrier (clear_marks s.table)).next
+  commits : stage_of s.control.mv.stage ≡ SecondBarrier → rise s.control.committed ≡ suc s.control.committed
       → Kept s t (Committed s.control.mv.target) (commit s).next
-  calls_off : stage_of s.control.mv.stage ≡ second_barrier → rise s.control.aborted ≡ suc s.control.aborted
+  calls_off : stage_of s.control.mv.stage ≡ SecondBarrier → rise s.control.aborted ≡ suc s.control.aborted
       → old_header s ≢ flagged s.control.mv.from → Kept s t CalledOff (call_off s).next
-  gives_back : stage_of s.control.mv.stage ≡ third_barrier → Kept s t GivenBack (give_back s).next
+  gives_back : stage_of s.control.mv.stage ≡ ThirdBarrier → Kept s t GivenBack (give_back s).next
 
 -- the rows stay, or their marks are cleared
 pub data SameRows (k : List Row) : List Row → Type 0 where
@@ -146,7 +148,7 @@ module _ {X : Type 0} (s : State) (g : Account) (t : Step) (I : Inv X s g) where
     unfolding barrier
     beyond o f = by_test D (all_passed s.table) (λ _. f) (λ _. stays k)
 
-    settled : stage_of v.stage ≡ second_barrier → D (settle s)
+    settled : stage_of v.stage ≡ SecondBarrier → D (settle s)
     unfolding settle
     settled e =
         let r7 = I.r7 in
@@ -158,12 +160,12 @@ module _ {X : Type 0} (s : State) (g : Account) (t : Step) (I : Inv X s g) where
         (calls_off e (rise_is s.control.aborted s.control.begun (omega arith) I.small)
         (eqb-false (header s.arena v.from) (flagged v.from) y)))
 
-    copying_word : stage_of v.stage ≡ copying → D (copy_word s)
+    copying_word : stage_of v.stage ≡ Copying → D (copy_word s)
     unfolding copy_word
     copying_word e =
         let l : Early v = rw e tt in
         let z = home_real I.core (early l) in
-        let more : v.copied < 8 * cells (g.kind v.meter) = omega (arith, count_at s g I copying e) in
+        let more : v.copied < 8 * cells (g.kind v.meter) = omega (arith, count_at s g I Copying e) in
         let up : rise v.copied ≡ suc v.copied = rise_is v.copied 64 (omega arith) (omega arith) in
         let head = from_word I.core l more 0 (omega arith) in
         by_test D (eqb (rise v.copied) (words_at s.arena v.from))
@@ -171,11 +173,11 @@ module _ {X : Type 0} (s : State) (g : Account) (t : Step) (I : Inv X s g) where
         (λ _. keeps k (omega arith) (omega arith) same (copies e up head))
 
     by_stage : (n : Stage) → stage_of v.stage ≡ n → D (advance s n)
-    by_stage idle e = refuses {n = 9} (omega arith)
-    by_stage first_barrier e = beyond (start_copying s) (keeps k (omega arith) (omega arith) same (starts e (count_at s g I first_barrier e)))
-    by_stage copying e = copying_word e
-    by_stage second_barrier e = beyond (settle s) (settled e)
-    by_stage third_barrier e = beyond (give_back s) (keeps k (omega arith) (omega arith) same (gives_back e))
+    by_stage NoMove e = refuses {n = 9} (omega arith)
+    by_stage FirstBarrier e = beyond (start_copying s) (keeps k (omega arith) (omega arith) same (starts e (count_at s g I FirstBarrier e)))
+    by_stage Copying e = copying_word e
+    by_stage SecondBarrier e = beyond (settle s) (settled e)
+    by_stage ThirdBarrier e = beyond (give_back s) (keeps k (omega arith) (omega arith) same (gives_back e))
 
     admitting : Passed (refusals ADMIT s t) → D (effect ADMIT s t)
     admitting p =

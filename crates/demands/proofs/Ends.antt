@@ -12,7 +12,9 @@ use Rattle.model.specs.declared.Row.{Row}
 use Rattle.model.specs.declared.Move.{Move}
 use Rattle.model.specs.Arena.{cells, none, header, flagged, put_run}
 use Rattle.model.specs.Rows.{all_passed}
-use Rattle.model.specs.State.{Stage, idle, first_barrier, copying, second_barrier, third_barrier, stage_of, no_move, rise, entry, State, Outcome}
+use Rattle.model.specs.declared.Stage.{Stage}
+use Rattle.model.specs.declared.Stage.TheVariants.{NoMove, FirstBarrier, Copying, SecondBarrier, ThirdBarrier}
+use Rattle.model.specs.State.{stage_of, no_move, rise, entry, State, Outcome}
 use Rattle.model.specs.KeeperSteps.{barrier, start_copying, settle, call_off, give_back, advance}
 use Rattle.model.specs.Rules.{is_early}
 use Rattle.model.specs.Steps.{Step, ADVANCE}
@@ -92,7 +94,7 @@ module _ {X : Type 0} (s : State) (g : Account) (I : Inv X s g) where
   abbrev v : Move
   v = s.control.mv
 
-  call_off_inv : stage_of v.stage ≡ second_barrier → header s.arena v.from ≢ flagged v.from → Inv X (call_off s).next g
+  call_off_inv : stage_of v.stage ≡ SecondBarrier → header s.arena v.from ≢ flagged v.from → Inv X (call_off s).next g
   call_off_inv e down =
       let l : Early v = rw e tt in
       let r7 = I.r7 in
@@ -108,7 +110,7 @@ module _ {X : Type 0} (s : State) (g : Account) (I : Inv X s g) where
         small = I.small;
       })
 
-  give_back_inv : stage_of v.stage ≡ third_barrier → all_passed s.table ≡ true → Inv X (give_back s).next g
+  give_back_inv : stage_of v.stage ≡ ThirdBarrier → all_passed s.table ≡ true → Inv X (give_back s).next g
   give_back_inv e p =
       let l : Late v = rw e tt in
       rw (from_kind I.core (late l)) (record {
@@ -125,18 +127,18 @@ module _ {X : Type 0} (s : State) (g : Account) (I : Inv X s g) where
     unfolding barrier
     beyond o f = by_test (Good X ADVANCE g t) (all_passed s.table) f (λ _. I)
 
-    settled : stage_of v.stage ≡ second_barrier → Good X ADVANCE g t (settle s)
+    settled : stage_of v.stage ≡ SecondBarrier → Good X ADVANCE g t (settle s)
     unfolding settle
     settled e = by_test (Good X ADVANCE g t) (eqb (header s.arena v.from) (flagged v.from))
         (λ y. commit_inv s g I e (eqb-true (header s.arena v.from) (flagged v.from) y))
         (λ y. call_off_inv e (eqb-false (header s.arena v.from) (flagged v.from) y))
 
     by_stage : (n : Stage) → stage_of v.stage ≡ n → Good X ADVANCE g t (advance s n)
-    by_stage idle e = I
-    by_stage first_barrier e = beyond (start_copying s) (first_inv s g I e)
-    by_stage copying e = copy_inv s g I t e
-    by_stage second_barrier e = beyond (settle s) (λ _. settled e)
-    by_stage third_barrier e = beyond (give_back s) (give_back_inv e)
+    by_stage NoMove e = I
+    by_stage FirstBarrier e = beyond (start_copying s) (first_inv s g I e)
+    by_stage Copying e = copy_inv s g I t e
+    by_stage SecondBarrier e = beyond (settle s) (λ _. settled e)
+    by_stage ThirdBarrier e = beyond (give_back s) (give_back_inv e)
 
     pub advance_inv : Keeps X ADVANCE s g t
     advance_inv = keeps ADVANCE s g t I (λ _. by_stage (stage_of v.stage) refl)

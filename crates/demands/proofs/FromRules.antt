@@ -15,7 +15,9 @@ use Rattle.model.specs.declared.Row.{Row}
 use Rattle.model.specs.declared.Move.{Move}
 use Rattle.model.specs.Arena.{cells, words, none, header, target_of, label, label_of, meter_of, kind_of, cells_at, words_at}
 use Rattle.model.specs.Rows.{hold_of, hold, fresh_row, FourHolds}
-use Rattle.model.specs.State.{Stage, idle, first_barrier, copying, second_barrier, third_barrier, stage_of, in_hand, no_move, entry, State, Sizes}
+use Rattle.model.specs.declared.Stage.{Stage}
+use Rattle.model.specs.declared.Stage.TheVariants.{NoMove, FirstBarrier, Copying, SecondBarrier, ThirdBarrier}
+use Rattle.model.specs.State.{stage_of, in_hand, no_move, entry, State, Sizes}
 use Rattle.model.specs.Choice.{every}
 use Rattle.model.specs.Rules.{is_early, covers, flag_up}
 use Rattle.model.proofs.Choice.{same_or_not}
@@ -61,11 +63,11 @@ account_of s =
 
 -- a move at stage 0 with no numbers is none
 no_move_lem : (v : Move) (n : ℕ) (g : Stage) → T (not (in_hand g)) → NumbersAt g v n → v.stage ≡ 0 → v ≡ no_move
-no_move_lem v n idle i r e = λ j. record { stage = e j; meter = r.meter j; from = r.from j; target = r.target j; copied = r.copied j }
-no_move_lem v n first_barrier i r e = absurd i
-no_move_lem v n copying i r e = absurd i
-no_move_lem v n second_barrier i r e = absurd i
-no_move_lem v n third_barrier i r e = absurd i
+no_move_lem v n NoMove i r e = λ j. record { stage = e j; meter = r.meter j; from = r.from j; target = r.target j; copied = r.copied j }
+no_move_lem v n FirstBarrier i r e = absurd i
+no_move_lem v n Copying i r e = absurd i
+no_move_lem v n SecondBarrier i r e = absurd i
+no_move_lem v n ThirdBarrier i r e = absurd i
 
 idle_zero : (n : ℕ) → n < 5 → T (not (in_hand (stage_of n))) → n ≡ 0
 unfolding every

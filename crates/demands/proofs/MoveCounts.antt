@@ -12,7 +12,9 @@ use Rattle.model.specs.declared.Answer.TheVariants.{Refused, Admitted, BarrierOp
 use Rattle.model.specs.declared.Move.{Move}
 use Rattle.model.specs.Choice.{◌and◌}
 use Rattle.model.specs.Arena.{words}
-use Rattle.model.specs.State.{Stage, idle, first_barrier, copying, second_barrier, third_barrier, stage_of, in_hand, State, number, Outcome}
+use Rattle.model.specs.declared.Stage.{Stage}
+use Rattle.model.specs.declared.Stage.TheVariants.{NoMove, FirstBarrier, Copying, SecondBarrier, ThirdBarrier}
+use Rattle.model.specs.State.{stage_of, in_hand, State, number, Outcome}
 use Rattle.model.specs.Steps.{Step, act}
 use Rattle.model.proofs.Choice.{by_test, and_parts}
 use Rattle.demands.specs.Log.{line, Log, after, log, said, answered, working_steps, last_moved, Line}
@@ -26,11 +28,11 @@ use Rattle.demands.proofs.Always.{always}
 
 -- the working steps done by a move at each stage, n words being copied
 abbrev Work : Stage → ℕ → ℕ → Type 0
-Work idle n w = Unit {0}
-Work first_barrier n w = w ≡ 1
-Work copying n w = w ≡ 2 + n
-Work second_barrier n w = w ≡ 2 + n
-Work third_barrier n w = w ≡ 3 + n
+Work NoMove n w = Unit {0}
+Work FirstBarrier n w = w ≡ 1
+Work Copying n w = w ≡ 2 + n
+Work SecondBarrier n w = w ≡ 2 + n
+Work ThirdBarrier n w = w ≡ 3 + n
 
 record MovesTold (v : Move) (l : Log) : Type 0 where
   pub work : Work (stage_of v.stage) v.copied (working_steps l)
@@ -63,10 +65,10 @@ kept_told : {s s' : State} {t : Step} {x : Answer} {l : Log} → Kept s t x s' �
 kept_told {t = t} (admits a k c _) m = silent t (Admitted c) (omega arith) (omega arith) m
 kept_told {t = t} (retires _ _) m = silent t (Done 0) (omega arith) (omega arith) m
 kept_told (begins c d _ up _) m = record { work = refl; meter = λ _. refl }
-kept_told (starts e z) m = record { work = omega (arith, work_at m first_barrier e); meter = meter_at m first_barrier e }
-kept_told (copies e up _) m = record { work = omega (arith, work_at m copying e); meter = meter_at m copying e }
-kept_told (fills e up _) m = record { work = omega (arith, work_at m copying e); meter = meter_at m copying e }
-kept_told (commits e up) m = record { work = omega (arith, work_at m second_barrier e); meter = meter_at m second_barrier e }
+kept_told (starts e z) m = record { work = omega (arith, work_at m FirstBarrier e); meter = meter_at m FirstBarrier e }
+kept_told (copies e up _) m = record { work = omega (arith, work_at m Copying e); meter = meter_at m Copying e }
+kept_told (fills e up _) m = record { work = omega (arith, work_at m Copying e); meter = meter_at m Copying e }
+kept_told (commits e up) m = record { work = omega (arith, work_at m SecondBarrier e); meter = meter_at m SecondBarrier e }
 kept_told (calls_off e up _) m = record { work = tt; meter = λ z. absurd z }
 kept_told (gives_back e) m = record { work = tt; meter = λ z. absurd z }
 
@@ -112,11 +114,11 @@ module _ {X : Type 0} {s : State} {l : Log} (I : Inv X s (said l)) (m : MovesTol
       → words ((said l).kind s.control.mv.meter) ≡ moved_words l
   moved_words_lem b e i = ap (λ (k : ℕ). words ((said l).kind k)) (meter_at m b e i)
 
-  at_second : stage_of s.control.mv.stage ≡ second_barrier → working_steps l ≡ 2 + moved_words l
-  at_second e = omega (arith, work_at m second_barrier e, count_at s (said l) I second_barrier e, moved_words_lem second_barrier e tt)
+  at_second : stage_of s.control.mv.stage ≡ SecondBarrier → working_steps l ≡ 2 + moved_words l
+  at_second e = omega (arith, work_at m SecondBarrier e, count_at s (said l) I SecondBarrier e, moved_words_lem SecondBarrier e tt)
 
-  at_third : stage_of s.control.mv.stage ≡ third_barrier → working_steps l ≡ 3 + moved_words l
-  at_third e = omega (arith, work_at m third_barrier e, count_at s (said l) I third_barrier e, moved_words_lem third_barrier e tt)
+  at_third : stage_of s.control.mv.stage ≡ ThirdBarrier → working_steps l ≡ 3 + moved_words l
+  at_third e = omega (arith, work_at m ThirdBarrier e, count_at s (said l) I ThirdBarrier e, moved_words_lem ThirdBarrier e tt)
 
   kept_priced : {s' : State} {t : Step} {x : Answer} → Kept s t x s' → MovePrice (line t x) l
   kept_priced (admits _ _ _ _) = unpriced _ l (omega arith) (omega arith)

@@ -8,17 +8,19 @@ use lib.Dec.{T}
 use lib.ListN.{get_or}
 use Rattle.model.specs.declared.Move.{Move}
 use Rattle.model.specs.Choice.{◌⇒◌, all}
-use Rattle.model.specs.State.{Stage, idle, first_barrier, copying, second_barrier, third_barrier, stage_of, in_hand}
+use Rattle.model.specs.declared.Stage.{Stage}
+use Rattle.model.specs.declared.Stage.TheVariants.{NoMove, FirstBarrier, Copying, SecondBarrier, ThirdBarrier}
+use Rattle.model.specs.State.{stage_of, in_hand}
 use Rattle.model.specs.Rules.{early, late}
 use Rattle.model.proofs.Choice.{both_hold}
 use Rattle.model.proofs.Readings.{Early, Late}
 
 abbrev pub first : Stage → Bool
-first idle = false
-first first_barrier = true
-first copying = false
-first second_barrier = false
-first third_barrier = false
+first NoMove = false
+first FirstBarrier = true
+first Copying = false
+first SecondBarrier = false
+first ThirdBarrier = false
 
 abbrev pub never : Stage → Bool
 never g = false
@@ -31,7 +33,7 @@ abbrev pub First : Move → Type 0
 First v = T (first (stage_of v.stage))
 
 abbrev stages : List Stage
-stages = idle ∷ first_barrier ∷ copying ∷ second_barrier ∷ third_barrier ∷ []
+stages = NoMove ∷ FirstBarrier ∷ Copying ∷ SecondBarrier ∷ ThirdBarrier ∷ []
 
 all_stages : (f : Stage → Bool) (l : List Stage) → T (all f l) → (n : ℕ) (d : Stage) → T (f d) → T (f (get_or l n d))
 all_stages f [] t n d u = u
@@ -48,7 +50,7 @@ pub at_stage : (p q r : Stage → Bool) → T (all (λ g. p g ⇒ q g ⇒ r g) s
     → T (r (stage_of n))
 at_stage p q r t n =
     follows (p (stage_of n)) (q (stage_of n)) (r (stage_of n))
-    (all_stages (λ g. p g ⇒ q g ⇒ r g) stages t n idle (both_hold (p idle ⇒ q idle ⇒ r idle) _ t).0)
+    (all_stages (λ g. p g ⇒ q g ⇒ r g) stages t n NoMove (both_hold (p NoMove ⇒ q NoMove ⇒ r NoMove) _ t).0)
 
 pub not_both : (v : Move) → Early v → Late v → ⊥
 not_both v = at_stage early late never tt v.stage

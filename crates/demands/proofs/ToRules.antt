@@ -13,7 +13,9 @@ use Rattle.model.specs.declared.Row.{Row}
 use Rattle.model.specs.declared.Move.{Move}
 use Rattle.model.specs.Arena.{cells, words, none, header, target_of, cells_at, words_at, used}
 use Rattle.model.specs.Rows.{hold_of, hold, fresh_row, FourHolds}
-use Rattle.model.specs.State.{Stage, idle, first_barrier, copying, second_barrier, third_barrier, stage_of, in_hand, no_move, entry, State, Sizes}
+use Rattle.model.specs.declared.Stage.{Stage}
+use Rattle.model.specs.declared.Stage.TheVariants.{NoMove, FirstBarrier, Copying, SecondBarrier, ThirdBarrier}
+use Rattle.model.specs.State.{stage_of, in_hand, no_move, entry, State, Sizes}
 use Rattle.model.specs.Rules.{covers, flag_up}
 use Rattle.model.proofs.Choice.{clash, order}
 use Rattle.model.proofs.Says.{says_eq, says_not, at_all}
@@ -36,7 +38,7 @@ stage_lt v f =
     none_in_hand : 5 ≤ v.stage → T (not (in_hand (stage_of v.stage)))
     none_in_hand h =
         subst⁻¹ (λ (g : Stage). T (not (in_hand g)))
-        (get_or-eq_default (idle ∷ first_barrier ∷ copying ∷ second_barrier ∷ third_barrier ∷ []) idle h) tt
+        (get_or-eq_default (NoMove ∷ FirstBarrier ∷ Copying ∷ SecondBarrier ∷ ThirdBarrier ∷ []) NoMove h) tt
 
 module _ {X : Type 0} (s : State) (g : Account) (I : Inv X s g) where
   abbrev dir : List ℕ

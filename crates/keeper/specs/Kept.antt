@@ -1,11 +1,11 @@
 -- What ADMIT, RETIRE and BEGIN leave: the control record, the word that changes, whether marks are cleared, the answer.
 -- The rows, and but for ADMIT the arena, are left to the caller; proofs/Acts joins these to the model's steps.
-use Rattle.std.specs.Prelude.{Bool, true, false, not, List, [], ◌∷◌, ℕ}
+use Rattle.std.specs.Prelude.{Bool, true, false, not, List, [], ◌∷◌, ℕ, None}
 use Rattle.model.specs.declared.Control.{Control}
-use Rattle.model.specs.declared.Change.TheVariants.{Nothing, Put}
 use Rattle.model.specs.declared.Answer.TheVariants.{Refused, Admitted, Begun, Done}
 use Rattle.model.specs.Arena.{cells, none, start, place, flagged, cells_at, new_record, laid, lowest_run}
 use Rattle.model.specs.State.{stage_of, in_hand, with_move, with_begun, rise, entry}
+use Rattle.model.specs.ClientSteps.{puts}
 use Rattle.model.specs.KeeperSteps.{taken, freed, with_entry, first_move}
 use Rattle.model.specs.Choice.{Refusal, ◌if◌, refuse}
 use Rattle.model.specs.Refusals.{bad_meter, bad_kind, is_none, admit_refusals, begin_refusals}
@@ -13,7 +13,7 @@ use Rattle.mover.specs.declared.Kept.{Kept}
 use Rattle.mover.specs.Kept.{kept}
 
 abbrev pub refused_kept : Control → ℕ → Kept
-refused_kept c n = kept c Nothing false (Refused n)
+refused_kept c n = kept c None false (Refused n)
 
 -- 5, 8 and 10: the lines that RETIRE and BEGIN have in common
 abbrev pub record_refusals : List ℕ → ℕ → ℕ → List Refusal
@@ -21,7 +21,7 @@ record_refusals dir stage meter = 5 if bad_meter meter ∷ 8 if in_hand (stage_o
 
 -- RETIRE of the record at a cell; whether some row holds it is told
 abbrev pub retired_kept : Control → List ℕ → ℕ → ℕ → Kept
-retired_kept c arena meter cell = kept (with_entry (freed c cell (cells_at arena cell)) meter none) Nothing false (Done 0)
+retired_kept c arena meter cell = kept (with_entry (freed c cell (cells_at arena cell)) meter none) None false (Done 0)
 
 unfoldable pub retire_step : Control → List ℕ → Bool → ℕ → Kept
 retire_step c arena held meter =
@@ -32,7 +32,7 @@ retire_step c arena held meter =
 abbrev pub begun_kept : Control → List ℕ → ℕ → ℕ → ℕ → Kept
 begun_kept c arena meter from target =
     kept (with_begun (with_move (taken c target (cells_at arena from)) (first_move meter from target)) (rise c.begun))
-    (Put (place from 0) (flagged from)) true (Begun target)
+    (puts (place from 0) (flagged from)) true (Begun target)
 
 unfoldable pub begin_step : Control → List ℕ → ℕ → Kept
 begin_step c arena meter =
@@ -45,7 +45,7 @@ new_refusals dir meter kind = 5 if bad_meter meter ∷ 5 if bad_kind kind ∷ 7 
 
 -- ADMIT: the control record, and the arena with the new record laid
 abbrev pub admitted_kept : Control → ℕ → ℕ → ℕ → Kept
-admitted_kept c meter kind at = kept (with_entry (taken c at (cells kind)) meter at) Nothing false (Admitted at)
+admitted_kept c meter kind at = kept (with_entry (taken c at (cells kind)) meter at) None false (Admitted at)
 
 unfoldable pub admit_step : Control → ℕ → ℕ → Kept
 admit_step c meter kind =

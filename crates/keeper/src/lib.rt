@@ -9,7 +9,7 @@ ghost use Rattle.model.specs.Choice.{given};
 ghost use Rattle.keeper.specs.Kept.{refused_kept, record_refusals, new_refusals, retire_step, begin_step, admit_step, admit_arena};
 
 use directory::{entry_of, set_entry};
-use model::{Answer, Change, Control, Move};
+use model::{Answer, Control, Move, Put};
 use mover::Kept;
 
 // "absent (65535)"
@@ -35,7 +35,7 @@ fn refused(control: Control, n: u32) -> Kept
 {
     Kept {
         control,
-        change: Change::Nothing,
+        change: None,
         clear: false,
         answer: Answer::Refused(n),
     }
@@ -78,7 +78,7 @@ pub fn retire(control: Control, arena: &[u32], held: bool, meter: u32) -> Kept
     set_entry(&mut next.dir, meter, NONE);
     Kept {
         control: next,
-        change: Change::Nothing,
+        change: None,
         clear: false,
         answer: Answer::Done(0),
     }
@@ -126,10 +126,10 @@ pub fn begin(control: Control, arena: &[u32], meter: u32) -> Kept
     next.begun = mover::one_more(control.begun);
     Kept {
         control: next,
-        change: Change::Put {
+        change: Some(Put {
             at: record::place(cell, 0),
             word: mover::flagged_header(from),
-        },
+        }),
         clear: true,
         answer: Answer::Begun(target),
     }
@@ -174,7 +174,7 @@ pub fn admit(control: Control, arena: &mut [u32], meter: u32, kind: u32) -> Kept
     set_entry(&mut next.dir, meter, cell as u16);
     Kept {
         control: next,
-        change: Change::Nothing,
+        change: None,
         clear: false,
         answer: Answer::Admitted(cell),
     }

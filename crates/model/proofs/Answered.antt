@@ -16,7 +16,9 @@ use Rattle.model.specs.declared.Answer.TheVariants.{Done}
 use Rattle.model.specs.Choice.{Refusal, ◌if◌, refuse}
 use Rattle.model.specs.Arena.{header, flagged, flag_of, words_at, fill}
 use Rattle.model.specs.Rows.{busy, hold, all_passed}
-use Rattle.model.specs.State.{Stage, idle, first_barrier, copying, second_barrier, third_barrier, stage_of, in_hand, rise, State}
+use Rattle.model.specs.declared.Stage.{Stage}
+use Rattle.model.specs.declared.Stage.TheVariants.{NoMove, FirstBarrier, Copying, SecondBarrier, ThirdBarrier}
+use Rattle.model.specs.State.{stage_of, in_hand, rise, State}
 use Rattle.model.specs.State.{Outcome, outcome, number, number_of01, Answered, fresh}
 use Rattle.model.specs.ClientSteps.{at_header, swap, go}
 use Rattle.model.specs.KeeperSteps.{move_of, barrier, copy_word, settle, advance}
@@ -55,16 +57,16 @@ module _ (s : State) (t : Step) where
 
   by_stage : (g : Stage) → not (in_hand g) ≡ false → Ok (advance s g)
   unfolding barrier copy_word settle
-  by_stage idle n = clash true refl n
-  by_stage first_barrier n = by_test Ok (all_passed s.table) (λ _. accepted _ tt tt) (λ _. accepted _ tt tt)
-  by_stage copying n =
+  by_stage NoMove n = clash true refl n
+  by_stage FirstBarrier n = by_test Ok (all_passed s.table) (λ _. accepted _ tt tt) (λ _. accepted _ tt tt)
+  by_stage Copying n =
       by_test Ok (eqb (rise (move_of s).copied) (words_at s.arena (move_of s).from)) (λ _. accepted _ tt tt) (λ _. accepted _ tt tt)
-  by_stage second_barrier n =
+  by_stage SecondBarrier n =
       by_test Ok (all_passed s.table)
       (λ _. by_test Ok (eqb (header s.arena (move_of s).from) (flagged (move_of s).from)) (λ _. accepted _ tt tt)
       (λ _. accepted _ tt tt))
       (λ _. accepted _ tt tt)
-  by_stage third_barrier n = by_test Ok (all_passed s.table) (λ _. accepted _ tt tt) (λ _. accepted _ tt tt)
+  by_stage ThirdBarrier n = by_test Ok (all_passed s.table) (λ _. accepted _ tt tt) (λ _. accepted _ tt tt)
 
   -- a client's step
   abbrev Sits : Stepped → Type 0

@@ -10,7 +10,9 @@ use borrow.Author.Tests.{eqb-true, eqb-false, not-true, not-false}
 use Rattle.model.specs.declared.Move.{Move}
 use Rattle.model.specs.Choice.{◌and◌, total}
 use Rattle.model.specs.Arena.{none, cells_at}
-use Rattle.model.specs.State.{Stage, idle, first_barrier, copying, second_barrier, third_barrier, stage_of}
+use Rattle.model.specs.declared.Stage.{Stage}
+use Rattle.model.specs.declared.Stage.TheVariants.{NoMove, FirstBarrier, Copying, SecondBarrier, ThirdBarrier}
+use Rattle.model.specs.State.{stage_of}
 use Rattle.model.specs.Rules.{is_cell, early, late, covers, record_covers, other_covers, blocks_over}
 use Rattle.model.proofs.Choice.{by_test, same_or_not}
 use Rattle.model.proofs.Says.{Somewhere, Says, says_le, says_lt, says_and, one_le, one_holds, one_yes, one_no}
@@ -115,18 +117,18 @@ module _ (v : Move) (arena : List ℕ) (x : ℕ) where
   other_over = other_covers (stage_of v.stage) v arena x
 
   early_at : (g : Stage) → T (early g) → other_covers g v arena x ≡ covers v.target (cells_at arena v.from) x
-  early_at idle l = absurd l
-  early_at first_barrier l = refl
-  early_at copying l = refl
-  early_at second_barrier l = refl
-  early_at third_barrier l = absurd l
+  early_at NoMove l = absurd l
+  early_at FirstBarrier l = refl
+  early_at Copying l = refl
+  early_at SecondBarrier l = refl
+  early_at ThirdBarrier l = absurd l
 
   late_at : (g : Stage) → T (late g) → other_covers g v arena x ≡ covers v.from (cells_at arena v.from) x
-  late_at idle l = absurd l
-  late_at first_barrier l = absurd l
-  late_at copying l = absurd l
-  late_at second_barrier l = absurd l
-  late_at third_barrier l = refl
+  late_at NoMove l = absurd l
+  late_at FirstBarrier l = absurd l
+  late_at Copying l = absurd l
+  late_at SecondBarrier l = absurd l
+  late_at ThirdBarrier l = refl
 
   pub other_early : Early v → other_over ≡ covers v.target (cells_at arena v.from) x
   other_early = early_at (stage_of v.stage)
@@ -142,11 +144,11 @@ module _ (v : Move) (arena : List ℕ) (x : ℕ) where
       by : (g : Stage) → (T (early g) → P (covers v.target (cells_at arena v.from) x))
           → (T (late g) → P (covers v.from (cells_at arena v.from) x)) → (¬ T (early g) → ¬ T (late g) → P 0)
           → P (other_covers g v arena x)
-      by idle a b c = c (λ z. z) (λ z. z)
-      by first_barrier a b c = a tt
-      by copying a b c = a tt
-      by second_barrier a b c = a tt
-      by third_barrier a b c = b tt
+      by NoMove a b c = c (λ z. z) (λ z. z)
+      by FirstBarrier a b c = a tt
+      by Copying a b c = a tt
+      by SecondBarrier a b c = a tt
+      by ThirdBarrier a b c = b tt
 
   pub other_le : other_over ≤ 1
   other_le =

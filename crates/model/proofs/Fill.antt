@@ -12,7 +12,9 @@ use borrow.Author.Tests.{eqb-false, not-true}
 use Rattle.model.specs.declared.Move.{Move}
 use Rattle.model.specs.Choice.{pick, total}
 use Rattle.model.specs.Arena.{none, cells_at, used, count_used, fill}
-use Rattle.model.specs.State.{Stage, idle, first_barrier, copying, second_barrier, third_barrier, stage_of, in_hand, entry, State}
+use Rattle.model.specs.declared.Stage.{Stage}
+use Rattle.model.specs.declared.Stage.TheVariants.{NoMove, FirstBarrier, Copying, SecondBarrier, ThirdBarrier}
+use Rattle.model.specs.State.{stage_of, in_hand, entry, State}
 use Rattle.model.specs.Rules.{is_cell, early, late, covers, record_covers, other_covers}
 use Rattle.model.proofs.Choice.{order}
 use Rattle.model.proofs.Readings.{Sound}
@@ -77,11 +79,11 @@ records_sum arena n (c ∷ dir) h =
 
 other_sum : (v : Move) (arena : List ℕ) (n : ℕ) (g : Stage) → (T (early g) → v.target + cells_at arena v.from ≤ n)
     → (T (late g) → v.from + cells_at arena v.from ≤ n) → sum (other_covers g v arena) n ≡ pick (in_hand g) (cells_at arena v.from) 0
-other_sum v arena n idle e l = sum_zero n
-other_sum v arena n first_barrier e l = block_sum v.target (cells_at arena v.from) n (e tt)
-other_sum v arena n copying e l = block_sum v.target (cells_at arena v.from) n (e tt)
-other_sum v arena n second_barrier e l = block_sum v.target (cells_at arena v.from) n (e tt)
-other_sum v arena n third_barrier e l = block_sum v.from (cells_at arena v.from) n (l tt)
+other_sum v arena n NoMove e l = sum_zero n
+other_sum v arena n FirstBarrier e l = block_sum v.target (cells_at arena v.from) n (e tt)
+other_sum v arena n Copying e l = block_sum v.target (cells_at arena v.from) n (e tt)
+other_sum v arena n SecondBarrier e l = block_sum v.target (cells_at arena v.from) n (e tt)
+other_sum v arena n ThirdBarrier e l = block_sum v.from (cells_at arena v.from) n (l tt)
 
 pub fill_is_cells : (s : State) → length s.control.dir ≡ 256 → Sound s
     → fill s.control.map ≡ total (cells_of s.arena) s.control.dir + other_cells s.control.mv s.arena

@@ -15,7 +15,9 @@ use Rattle.model.specs.declared.Move.{Move}
 use Rattle.model.specs.Choice.{pick, one, All}
 use Rattle.model.specs.Arena.{none, header, plain, flagged, target_of, label, meter_of, cells_at, words_at, payload_at, used}
 use Rattle.model.specs.Rows.{hold_of, word_of, busy, hold}
-use Rattle.model.specs.State.{Stage, idle, first_barrier, copying, second_barrier, third_barrier, stage_of, entry, State}
+use Rattle.model.specs.declared.Stage.{Stage}
+use Rattle.model.specs.declared.Stage.TheVariants.{NoMove, FirstBarrier, Copying, SecondBarrier, ThirdBarrier}
+use Rattle.model.specs.State.{stage_of, entry, State}
 use Rattle.model.specs.Rules.{is_cell, is_early, is_late, record_right, R1, replica_right, early_right, late_right, R2, blocks_over}
 use Rattle.model.specs.Rules.{cell_right, R3, header_right, R4, numbers_right, R5, detached_right, hold_right, access_right, phase_right}
 use Rattle.model.specs.Rules.{passed_right, row_right, R6, R7, flag_up, waits, waits_elsewhere, swaps_right, R8, first_false, first_broken}
@@ -160,25 +162,25 @@ pub record NoNumbers (v : Move) : Type 0 where
   pub copied : v.copied ≡ 0
 
 abbrev pub NumbersAt : Stage → Move → ℕ → Type 0
-NumbersAt idle v n = NoNumbers v
-NumbersAt first_barrier v n = v.copied ≡ 0
-NumbersAt copying v n = v.copied < n
-NumbersAt second_barrier v n = v.copied ≡ n
-NumbersAt third_barrier v n = v.copied ≡ n
+NumbersAt NoMove v n = NoNumbers v
+NumbersAt FirstBarrier v n = v.copied ≡ 0
+NumbersAt Copying v n = v.copied < n
+NumbersAt SecondBarrier v n = v.copied ≡ n
+NumbersAt ThirdBarrier v n = v.copied ≡ n
 
 abbrev pub NumbersRight : Move → List ℕ → Type 0
 NumbersRight v arena = NumbersAt (stage_of v.stage) v (words_at arena v.from)
 
 says_numbers : (g : Stage) (v : Move) (n : ℕ) → Says (numbers_right g v n) (NumbersAt g v n)
-says_numbers idle v n =
+says_numbers NoMove v n =
     says_as
     (λ k. record { meter = k.0; from = k.1.0; target = k.1.1.0; copied = k.1.1.1 })
     (λ r. (r.meter, (r.from, (r.target, r.copied))))
     (says_and (says_eq _ _) (says_and (says_eq _ _) (says_and (says_eq _ _) (says_eq _ _))))
-says_numbers first_barrier v n = says_eq _ _
-says_numbers copying v n = says_lt _ _
-says_numbers second_barrier v n = says_eq _ _
-says_numbers third_barrier v n = says_eq _ _
+says_numbers FirstBarrier v n = says_eq _ _
+says_numbers Copying v n = says_lt _ _
+says_numbers SecondBarrier v n = says_eq _ _
+says_numbers ThirdBarrier v n = says_eq _ _
 
 pub says_r5 : (v : Move) (arena : List ℕ) → Says (R5 v arena) (NumbersRight v arena)
 unfolding R5

@@ -5,16 +5,18 @@ use Prim.Native.Nat.{ℕ, zero, suc, ◌≤◌}
 use native.Mathlib.Omega.{arith}
 use lib.Dec.{eqb, ltb}
 use borrow.Author.Tests.{le-ltb, ne_eqb}
-use Rattle.model.specs.State.{Stage, idle, first_barrier, copying, second_barrier, third_barrier, stage_of, in_hand}
+use Rattle.model.specs.declared.Stage.{Stage}
+use Rattle.model.specs.declared.Stage.TheVariants.{NoMove, FirstBarrier, Copying, SecondBarrier, ThirdBarrier}
+use Rattle.model.specs.State.{stage_of, in_hand}
 use Rattle.model.specs.Rules.{early, late}
 use Rattle.model.proofs.Choice.{clash}
 
 pub early_not_late : (g : Stage) → early g ≡ true → late g ≡ false
-early_not_late idle e = refl
-early_not_late first_barrier e = refl
-early_not_late copying e = refl
-early_not_late second_barrier e = refl
-early_not_late third_barrier e = clash false e refl
+early_not_late NoMove e = refl
+early_not_late FirstBarrier e = refl
+early_not_late Copying e = refl
+early_not_late SecondBarrier e = refl
+early_not_late ThirdBarrier e = clash false e refl
 
 pub early_number : (n : ℕ) → (n ≡ 0 → ⊥) → ltb n 4 ≡ early (stage_of n)
 early_number zero h = absurd (h refl)
@@ -32,7 +34,7 @@ late_number (suc (suc (suc zero))) = refl
 late_number (suc (suc (suc (suc zero)))) = refl
 late_number (suc (suc (suc (suc (suc n))))) = ne_eqb (suc (suc (suc (suc (suc n))))) 4 (λ e. omega arith)
 
-pub stage_none : (n : ℕ) → (n ≡ 1 → ⊥) → (n ≡ 2 → ⊥) → (n ≡ 3 → ⊥) → (n ≡ 4 → ⊥) → stage_of n ≡ idle
+pub stage_none : (n : ℕ) → (n ≡ 1 → ⊥) → (n ≡ 2 → ⊥) → (n ≡ 3 → ⊥) → (n ≡ 4 → ⊥) → stage_of n ≡ NoMove
 stage_none zero a b c d = refl
 stage_none (suc zero) a b c d = absurd (a refl)
 stage_none (suc (suc zero)) a b c d = absurd (b refl)

@@ -8,7 +8,9 @@ use Rattle.model.specs.declared.Answer.TheVariants.{CalledOff, GivenBack, Done}
 use Rattle.model.specs.Choice.{pick}
 use Rattle.model.specs.Arena.{cells, none, start, place, word, header, plain, flagged, cells_at, words_at, new_record, laid, put_run}
 use Rattle.model.specs.Rows.{clear_marks, all_passed}
-use Rattle.model.specs.State.{Stage, idle, first_barrier, copying, second_barrier, third_barrier, stage_number, no_move, with_stage}
+use Rattle.model.specs.declared.Stage.{Stage}
+use Rattle.model.specs.declared.Stage.TheVariants.{NoMove, FirstBarrier, Copying, SecondBarrier, ThirdBarrier}
+use Rattle.model.specs.State.{stage_number, no_move, with_stage}
 use Rattle.model.specs.State.{with_copied, with_dir, with_map, with_move, with_begun, with_committed, with_aborted, rise, State, state}
 use Rattle.model.specs.State.{with_control, Outcome, outcome}
 
@@ -36,7 +38,7 @@ retire s meter c = outcome (Done 0) (with_control s (with_entry (freed s.control
 -- 3 "BEGIN a = meter. The target is the lowest free run of the record's length. Its cells become used, the flag is set, begun
 -- rises by one, passed marks are cleared, the stage is first barrier. Answer 21, value target."
 abbrev pub first_move : ℕ → ℕ → ℕ → Move
-first_move meter from target = record { stage = stage_number first_barrier; meter = meter; from = from; target = target; copied = 0 }
+first_move meter from target = record { stage = stage_number FirstBarrier; meter = meter; from = from; target = target; copied = 0 }
 
 abbrev pub begin : State → ℕ → ℕ → ℕ → Outcome
 begin s meter from target =
@@ -56,7 +58,7 @@ barrier s beyond = pick (all_passed s.table) beyond (outcome BarrierOpen s)
 
 -- first barrier: "else to copying, answer 23"
 abbrev pub start_copying : State → Outcome
-start_copying s = outcome CopyingStarts (with_control s (with_move s.control (with_stage (move_of s) copying)))
+start_copying s = outcome CopyingStarts (with_control s (with_move s.control (with_stage (move_of s) Copying)))
 
 -- copying: "writes one word of the replica, in order from 0: word 0 is 2 × target, every other word is copied. Answer 24, value
 -- words done. After the last word marks are cleared and the stage is second barrier."
@@ -73,8 +75,8 @@ copied s stage table =
 unfoldable pub copy_word : State → Outcome
 copy_word s =
     pick (eqb (rise (move_of s).copied) (words_at s.arena (move_of s).from))
-    (copied s second_barrier (clear_marks s.table))
-    (copied s copying s.table)
+    (copied s SecondBarrier (clear_marks s.table))
+    (copied s Copying s.table)
 
 -- second barrier: "Equal: header becomes 2 × target, directory entry the target, committed rises, marks are cleared, stage third
 -- barrier, answer 25, value target."
@@ -82,7 +84,7 @@ abbrev pub commit : State → Outcome
 commit s =
     outcome (Committed (move_of s).target)
     (state
-    (with_committed (with_move (with_entry s.control (move_of s).meter (move_of s).target) (with_stage (move_of s) third_barrier))
+    (with_committed (with_move (with_entry s.control (move_of s).meter (move_of s).target) (with_stage (move_of s) ThirdBarrier))
     (rise s.control.committed))
     (set s.arena (place (move_of s).from 0) (plain (move_of s).target)) (clear_marks s.table))
 
@@ -104,8 +106,8 @@ give_back s = outcome GivenBack (with_control s (with_move (freed s.control (mov
 
 -- with no move in hand it was refused by 9
 abbrev pub advance : State → Stage → Outcome
-advance s idle = outcome (Refused 9) s
-advance s first_barrier = barrier s (start_copying s)
-advance s copying = copy_word s
-advance s second_barrier = barrier s (settle s)
-advance s third_barrier = barrier s (give_back s)
+advance s NoMove = outcome (Refused 9) s
+advance s FirstBarrier = barrier s (start_copying s)
+advance s Copying = copy_word s
+advance s SecondBarrier = barrier s (settle s)
+advance s ThirdBarrier = barrier s (give_back s)

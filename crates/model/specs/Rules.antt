@@ -8,7 +8,9 @@ use Rattle.model.specs.declared.Move.{Move}
 use Rattle.model.specs.Choice.{pick, ◌and◌, ◌or◌, ◌⇒◌, one, every, all, any, total}
 use Rattle.model.specs.Arena.{none, header, plain, flagged, target_of, label, meter_of, cells_at, words_at, payload_at, used}
 use Rattle.model.specs.Rows.{hold_of, word_of, busy, hold}
-use Rattle.model.specs.State.{Stage, idle, first_barrier, copying, second_barrier, third_barrier, stage_of, entry, State}
+use Rattle.model.specs.declared.Stage.{Stage}
+use Rattle.model.specs.declared.Stage.TheVariants.{NoMove, FirstBarrier, Copying, SecondBarrier, ThirdBarrier}
+use Rattle.model.specs.State.{stage_of, entry, State}
 
 -- an entry, or a hold, that names a cell
 abbrev pub is_cell : ℕ → Bool
@@ -16,18 +18,18 @@ is_cell c = not (eqb c none)
 
 -- "its first three stages"; "the third barrier"
 abbrev pub early : Stage → Bool
-early idle = false
-early first_barrier = true
-early copying = true
-early second_barrier = true
-early third_barrier = false
+early NoMove = false
+early FirstBarrier = true
+early Copying = true
+early SecondBarrier = true
+early ThirdBarrier = false
 
 abbrev pub late : Stage → Bool
-late idle = false
-late first_barrier = false
-late copying = false
-late second_barrier = false
-late third_barrier = true
+late NoMove = false
+late FirstBarrier = false
+late Copying = false
+late SecondBarrier = false
+late ThirdBarrier = true
 
 abbrev pub is_early : Move → Bool
 is_early v = early (stage_of v.stage)
@@ -82,11 +84,11 @@ record_covers arena x c = pick (is_cell c) (covers c (cells_at arena c) x) 0
 
 -- "the move's other block": the target in the first three stages, the old one in the third barrier
 abbrev pub other_covers : Stage → Move → List ℕ → ℕ → ℕ
-other_covers idle v arena x = 0
-other_covers first_barrier v arena x = covers v.target (cells_at arena v.from) x
-other_covers copying v arena x = covers v.target (cells_at arena v.from) x
-other_covers second_barrier v arena x = covers v.target (cells_at arena v.from) x
-other_covers third_barrier v arena x = covers v.from (cells_at arena v.from) x
+other_covers NoMove v arena x = 0
+other_covers FirstBarrier v arena x = covers v.target (cells_at arena v.from) x
+other_covers Copying v arena x = covers v.target (cells_at arena v.from) x
+other_covers SecondBarrier v arena x = covers v.target (cells_at arena v.from) x
+other_covers ThirdBarrier v arena x = covers v.from (cells_at arena v.from) x
 
 unfoldable pub blocks_over : List ℕ → Move → List ℕ → ℕ → ℕ
 blocks_over dir v arena x = total (record_covers arena x) dir + other_covers (stage_of v.stage) v arena x
@@ -111,11 +113,11 @@ R4 dir v arena = every 256 (header_right dir v arena) and (is_late v ⇒ eqb (he
 -- R5 "Words copied is below the record's words while copying; at the other stages, and with no move in hand, the move's numbers are
 -- as said above."
 abbrev pub numbers_right : Stage → Move → ℕ → Bool
-numbers_right idle v n = eqb v.meter 0 and eqb v.from 0 and eqb v.target 0 and eqb v.copied 0
-numbers_right first_barrier v n = eqb v.copied 0
-numbers_right copying v n = ltb v.copied n
-numbers_right second_barrier v n = eqb v.copied n
-numbers_right third_barrier v n = eqb v.copied n
+numbers_right NoMove v n = eqb v.meter 0 and eqb v.from 0 and eqb v.target 0 and eqb v.copied 0
+numbers_right FirstBarrier v n = eqb v.copied 0
+numbers_right Copying v n = ltb v.copied n
+numbers_right SecondBarrier v n = eqb v.copied n
+numbers_right ThirdBarrier v n = eqb v.copied n
 
 unfoldable pub R5 : Move → List ℕ → Bool
 R5 v arena = numbers_right (stage_of v.stage) v (words_at arena v.from)

@@ -2,8 +2,13 @@
 use Rattle.std.specs.Prelude.{◌≡◌, Bool, true, false, List, [], ◌∷◌, ℕ, pred, ◌+◌, ◌%◌, ◌^◌, ◌<◌, leb, length, get_or, set, replicate}
 use Rattle.model.specs.declared.Row.{Row}
 use Rattle.model.specs.declared.Move.{Move}
+use Rattle.model.specs.declared.Stage.{Stage}
+use Rattle.model.specs.declared.Stage.TheVariants.{NoMove, FirstBarrier, Copying, SecondBarrier, ThirdBarrier}
 use Rattle.model.specs.declared.Control.{Control}
 use Rattle.model.specs.declared.Answer.{Answer}
+use Rattle.model.specs.declared.Reason.{Reason}
+use Rattle.model.specs.declared.Reason.TheVariants.{WrongSizes, Unsound, Nobody, Unknown, TooLarge, Unattached, Already, Busy}
+use Rattle.model.specs.declared.Reason.TheVariants.{Idle, Absent, Held, Full, NoneBelow, PastPayload, Spent}
 use Rattle.model.specs.Choice.{◌and◌, ◌or◌, All}
 use Rattle.model.specs.Arena.{none, IsMap}
 use Rattle.model.specs.Rows.{FourHolds, fresh_row}
@@ -11,26 +16,23 @@ use Rattle.model.specs.declared.Answer.TheVariants.{Refused, Admitted, Begun, Ba
 use Rattle.model.specs.declared.Answer.TheVariants.{CalledOff, GivenBack, Done, ReadyAt, WaitsOn, SwapWon, SwapLost, Got, Written}
 
 -- the stages of a move, by number; any other number is no stage
-pub data Stage : Type 0 where
-  idle first_barrier copying second_barrier third_barrier : Stage
-
 abbrev pub stage_of : ℕ → Stage
-stage_of n = get_or (idle ∷ first_barrier ∷ copying ∷ second_barrier ∷ third_barrier ∷ []) n idle
+stage_of n = get_or (NoMove ∷ FirstBarrier ∷ Copying ∷ SecondBarrier ∷ ThirdBarrier ∷ []) n NoMove
 
 abbrev pub stage_number : Stage → ℕ
-stage_number idle = 0
-stage_number first_barrier = 1
-stage_number copying = 2
-stage_number second_barrier = 3
-stage_number third_barrier = 4
+stage_number NoMove = 0
+stage_number FirstBarrier = 1
+stage_number Copying = 2
+stage_number SecondBarrier = 3
+stage_number ThirdBarrier = 4
 
 -- "a move in hand"
 abbrev pub in_hand : Stage → Bool
-in_hand idle = false
-in_hand first_barrier = true
-in_hand copying = true
-in_hand second_barrier = true
-in_hand third_barrier = true
+in_hand NoMove = false
+in_hand FirstBarrier = true
+in_hand Copying = true
+in_hand SecondBarrier = true
+in_hand ThirdBarrier = true
 
 -- "the move in hand (stage, meter, old cell called from, target cell, words copied; all 0 when there is none"
 abbrev pub no_move : Move
@@ -136,6 +138,27 @@ number x = (told x).0
 
 abbrev pub value : Answer → ℕ
 value x = (told x).1
+
+-- 01's number of each reason of refusal, and the answer that gives it
+abbrev pub reason_number : Reason → ℕ
+reason_number WrongSizes = 1
+reason_number Unsound = 2
+reason_number Nobody = 3
+reason_number Unknown = 4
+reason_number TooLarge = 5
+reason_number Unattached = 6
+reason_number Already = 7
+reason_number Busy = 8
+reason_number Idle = 9
+reason_number Absent = 10
+reason_number Held = 11
+reason_number Full = 12
+reason_number NoneBelow = 13
+reason_number PastPayload = 14
+reason_number Spent = 15
+
+abbrev pub refusal : Reason → Answer
+refusal x = Refused (reason_number x)
 
 -- what a step answers, and the state that it leaves
 pub record Outcome : Type 0 where

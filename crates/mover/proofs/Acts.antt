@@ -7,7 +7,9 @@ use Rattle.model.specs.declared.Answer.TheVariants.{BarrierOpen}
 use Rattle.model.specs.Choice.{pick, refuse}
 use Rattle.model.specs.Arena.{header, flagged, words_at}
 use Rattle.model.specs.Rows.{clear_marks, all_passed}
-use Rattle.model.specs.State.{Stage, idle, first_barrier, copying, second_barrier, third_barrier, stage_of, in_hand, rise, State}
+use Rattle.model.specs.declared.Stage.{Stage}
+use Rattle.model.specs.declared.Stage.TheVariants.{NoMove, FirstBarrier, Copying, SecondBarrier, ThirdBarrier}
+use Rattle.model.specs.State.{stage_of, in_hand, rise, State}
 use Rattle.model.specs.State.{state, Outcome, outcome}
 use Rattle.model.specs.ClientSteps.{changed}
 use Rattle.model.specs.KeeperSteps.{move_of, barrier, start_copying, copy_word, settle, advance}
@@ -64,8 +66,8 @@ advance_acts s t e = act_named s t ADVANCE e ∙ by (stage_of (move_of s).stage)
   where
     by : (x : Stage)
         → pick (not (in_hand x)) (refused s 9) (advance s x) ≡ placed s (advance_kept s.control s.arena (all_passed s.table) x)
-    by idle = refl
-    by first_barrier = first_acts s
-    by copying = copying_acts s
-    by second_barrier = ap (barrier s) (settle_acts s) ∙ barrier_acts s (settle_kept s.control s.arena)
-    by third_barrier = barrier_acts s (give_back_kept s.control s.arena)
+    by NoMove = refl
+    by FirstBarrier = first_acts s
+    by Copying = copying_acts s
+    by SecondBarrier = ap (barrier s) (settle_acts s) ∙ barrier_acts s (settle_kept s.control s.arena)
+    by ThirdBarrier = barrier_acts s (give_back_kept s.control s.arena)

@@ -1,16 +1,17 @@
 -- The stages that close on the whole control record, and the others, as tests on the stage's number tell them. Assumes nothing.
-use Rattle.std.proofs.Common.{◌≡◌, ℕ, zero, suc, ◌≤◌, Bool, false, List, refl, arith}
+use Rattle.std.proofs.Common.{◌≡◌, ℕ, zero, suc, ◌≤◌, Bool, false, List, refl, arith, None}
 use Rattle.model.specs.declared.Move.{Move}
 use Rattle.model.specs.declared.Control.{Control}
-use Rattle.model.specs.declared.Change.TheVariants.{Nothing}
 use Rattle.model.specs.declared.Answer.TheVariants.{BarrierOpen}
-use Rattle.model.specs.State.{Stage, idle, first_barrier, copying, second_barrier, third_barrier, stage_of}
+use Rattle.model.specs.declared.Stage.{Stage}
+use Rattle.model.specs.declared.Stage.TheVariants.{NoMove, FirstBarrier, Copying, SecondBarrier, ThirdBarrier}
+use Rattle.model.specs.State.{stage_of}
 use Rattle.mover.specs.Kept.{kept, stays, advance_move, closing, close_kept}
 
 -- the second and the third barrier, numbered 3 and 4
 data Closes : Stage → Type 0 where
-  at_second : Closes second_barrier
-  at_third : Closes third_barrier
+  at_second : Closes SecondBarrier
+  at_third : Closes ThirdBarrier
 
 stage_closes : (n : ℕ) → 3 ≤ n → n ≤ 4 → Closes (stage_of n)
 stage_closes zero p q = absurd (omega arith)
@@ -22,9 +23,9 @@ stage_closes (suc (suc (suc (suc (suc n))))) p q = absurd (omega arith)
 
 -- every other
 data Open : Stage → Type 0 where
-  at_none : Open idle
-  at_first : Open first_barrier
-  at_copying : Open copying
+  at_none : Open NoMove
+  at_first : Open FirstBarrier
+  at_copying : Open Copying
 
 stage_open : (n : ℕ) → ¬ (n ≡ 3) → ¬ (n ≡ 4) → Open (stage_of n)
 stage_open zero a b = at_none
@@ -60,10 +61,10 @@ open_never_closes passed n a b = by (stage_open n a b)
     by at_copying = refl
 
 pub open_unchanged : (c : Control) (arena : List ℕ) (n : ℕ) → ¬ (n ≡ 3) → ¬ (n ≡ 4)
-    → close_kept c arena (stage_of n) ≡ kept c Nothing false BarrierOpen
+    → close_kept c arena (stage_of n) ≡ kept c None false BarrierOpen
 open_unchanged c arena n a b = by (stage_open n a b)
   where
-    by : {x : Stage} → Open x → close_kept c arena x ≡ kept c Nothing false BarrierOpen
+    by : {x : Stage} → Open x → close_kept c arena x ≡ kept c None false BarrierOpen
     by at_none = refl
     by at_first = refl
     by at_copying = refl

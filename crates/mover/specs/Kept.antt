@@ -1,16 +1,17 @@
 -- What ADVANCE leaves: the move or the control record, the word that changes, whether marks are cleared, the answer.
 -- The arena and the rows themselves are left to the caller; proofs/Acts joins these to the model's steps.
-use Rattle.std.specs.Prelude.{ℕ, Bool, true, false, List, ◌==◌}
+use Rattle.std.specs.Prelude.{ℕ, Bool, true, false, List, ◌==◌, None}
 use Rattle.model.specs.declared.Move.{Move}
 use Rattle.model.specs.declared.Control.{Control}
-use Rattle.model.specs.declared.Change.{Change}
-use Rattle.model.specs.declared.Change.TheVariants.{Nothing, Put}
 use Rattle.model.specs.declared.Answer.{Answer}
 use Rattle.model.specs.declared.Answer.TheVariants.{Refused, BarrierOpen, CopyingStarts, Copied, Committed, CalledOff, GivenBack}
 use Rattle.model.specs.Choice.{pick}
 use Rattle.model.specs.Arena.{place, header, plain, flagged, cells_at, words_at}
-use Rattle.model.specs.State.{Stage, idle, first_barrier, copying, second_barrier, third_barrier, stage_number, no_move, with_stage}
+use Rattle.model.specs.declared.Stage.{Stage}
+use Rattle.model.specs.declared.Stage.TheVariants.{NoMove, FirstBarrier, Copying, SecondBarrier, ThirdBarrier}
+use Rattle.model.specs.State.{stage_number, no_move, with_stage}
 use Rattle.model.specs.State.{with_move, with_committed, with_aborted, rise}
+use Rattle.model.specs.ClientSteps.{Change, puts}
 use Rattle.model.specs.KeeperSteps.{freed, with_entry, replica_word}
 use Rattle.mover.specs.declared.Moved.{Moved}
 use Rattle.mover.specs.declared.Kept.{Kept}
@@ -23,11 +24,11 @@ kept c change clear x = record { control = c; change = change; clear = clear; an
 
 -- only the answer is given
 abbrev pub stays : Move → Answer → Moved
-stays v x = moved v Nothing false x
+stays v x = moved v None false x
 
 -- ADVANCE by the move alone. First barrier: "if any row has not passed, answer 22, nothing changes; else to copying, answer 23"
 unfoldable pub open_first : Move → Bool → Moved
-open_first v passed = pick passed (moved (with_stage v copying) Nothing false CopyingStarts) (stays v BarrierOpen)
+open_first v passed = pick passed (moved (with_stage v Copying) None false CopyingStarts) (stays v BarrierOpen)
 
 -- copying: "writes one word of the replica, in order from 0 .. After the last word marks are cleared and the stage is second barrier."
 abbrev pub one_copied : Move → ℕ → Change → Bool → Moved
@@ -36,26 +37,26 @@ one_copied v stage change clear =
     (Copied (rise v.copied))
 
 abbrev pub copied_word : List ℕ → Move → Stage → Bool → Moved
-copied_word arena v stage clear = one_copied v (stage_number stage) (Put (place v.target v.copied) (replica_word arena v)) clear
+copied_word arena v stage clear = one_copied v (stage_number stage) (puts (place v.target v.copied) (replica_word arena v)) clear
 
 unfoldable pub copy_move : List ℕ → Move → Moved
 copy_move arena v =
-    pick (rise v.copied == words_at arena v.from) (copied_word arena v second_barrier true) (copied_word arena v copying false)
+    pick (rise v.copied == words_at arena v.from) (copied_word arena v SecondBarrier true) (copied_word arena v Copying false)
 
 -- at the second and third barrier the move alone is enough only to answer 22
 abbrev pub advance_move : List ℕ → Move → Bool → Stage → Moved
-advance_move arena v passed idle = stays v (Refused 9)
-advance_move arena v passed first_barrier = open_first v passed
-advance_move arena v passed copying = copy_move arena v
-advance_move arena v passed second_barrier = stays v BarrierOpen
-advance_move arena v passed third_barrier = stays v BarrierOpen
+advance_move arena v passed NoMove = stays v (Refused 9)
+advance_move arena v passed FirstBarrier = open_first v passed
+advance_move arena v passed Copying = copy_move arena v
+advance_move arena v passed SecondBarrier = stays v BarrierOpen
+advance_move arena v passed ThirdBarrier = stays v BarrierOpen
 
 -- the second barrier, all passed: "Equal: header becomes 2 × target, directory entry the target, committed rises, marks are
 -- cleared, stage third barrier, answer 25, value target."
 abbrev pub commit_kept : Control → Kept
 commit_kept c =
-    kept (with_committed (with_move (with_entry c c.mv.meter c.mv.target) (with_stage c.mv third_barrier)) (rise c.committed))
-    (Put (place c.mv.from 0) (plain c.mv.target)) true (Committed c.mv.target)
+    kept (with_committed (with_move (with_entry c c.mv.meter c.mv.target) (with_stage c.mv ThirdBarrier)) (rise c.committed))
+    (puts (place c.mv.from 0) (plain c.mv.target)) true (Committed c.mv.target)
 
 -- a block of the moved record's length freed, and no move in hand
 abbrev pub end_move : Control → List ℕ → ℕ → Control
@@ -63,7 +64,7 @@ end_move c arena cell = with_move (freed c cell (cells_at arena c.mv.from)) no_m
 
 -- "Not equal: the replica's cells are freed, aborted rises, no move in hand, answer 26."
 abbrev pub call_off_kept : Control → List ℕ → Kept
-call_off_kept c arena = kept (with_aborted (end_move c arena c.mv.target) (rise c.aborted)) Nothing false CalledOff
+call_off_kept c arena = kept (with_aborted (end_move c arena c.mv.target) (rise c.aborted)) None false CalledOff
 
 -- "compare the header with 2 × from + 1"
 unfoldable pub settle_kept : Control → List ℕ → Kept
@@ -71,22 +72,22 @@ settle_kept c arena = pick (header arena c.mv.from == flagged c.mv.from) (commit
 
 -- the third barrier, all passed: "Else the old block's cells are freed, no move in hand, answer 27."
 abbrev pub give_back_kept : Control → List ℕ → Kept
-give_back_kept c arena = kept (end_move c arena c.mv.from) Nothing false GivenBack
+give_back_kept c arena = kept (end_move c arena c.mv.from) None false GivenBack
 
 -- the second and third barrier want the whole record, once all have passed; else the move alone is enough
 abbrev pub closing : Bool → Stage → Bool
-closing passed idle = false
-closing passed first_barrier = false
-closing passed copying = false
-closing passed second_barrier = passed
-closing passed third_barrier = passed
+closing passed NoMove = false
+closing passed FirstBarrier = false
+closing passed Copying = false
+closing passed SecondBarrier = passed
+closing passed ThirdBarrier = passed
 
 abbrev pub close_kept : Control → List ℕ → Stage → Kept
-close_kept c arena idle = kept c Nothing false BarrierOpen
-close_kept c arena first_barrier = kept c Nothing false BarrierOpen
-close_kept c arena copying = kept c Nothing false BarrierOpen
-close_kept c arena second_barrier = settle_kept c arena
-close_kept c arena third_barrier = give_back_kept c arena
+close_kept c arena NoMove = kept c None false BarrierOpen
+close_kept c arena FirstBarrier = kept c None false BarrierOpen
+close_kept c arena Copying = kept c None false BarrierOpen
+close_kept c arena SecondBarrier = settle_kept c arena
+close_kept c arena ThirdBarrier = give_back_kept c arena
 
 -- what the move alone leaves, in the control record
 abbrev pub on_move : Control → Moved → Kept

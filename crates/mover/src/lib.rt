@@ -10,13 +10,13 @@ ghost use Rattle.mover.specs.Kept.{stays, open_first, one_copied, copy_move, adv
 ghost use Rattle.mover.specs.Kept.{settle_kept, give_back_kept, closing, close_kept};
 
 use directory::set_entry;
-use model::{Answer, Change, Control, Move};
+use model::{Answer, Control, Move, Put};
 
 // What ADVANCE leaves where the move alone is concerned.
 #[derive(Clone, Copy)]
 pub struct Moved {
     pub mv: Move,
-    pub change: Change,
+    pub change: Option<Put>,
     pub clear: bool,
     pub answer: Answer,
 }
@@ -25,7 +25,7 @@ pub struct Moved {
 #[derive(Clone, Copy)]
 pub struct Kept {
     pub control: Control,
-    pub change: Change,
+    pub change: Option<Put>,
     pub clear: bool,
     pub answer: Answer,
 }
@@ -63,7 +63,7 @@ fn stay(mv: Move, answer: Answer) -> Moved
 {
     Moved {
         mv,
-        change: Change::Nothing,
+        change: None,
         clear: false,
         answer,
     }
@@ -93,7 +93,7 @@ fn replica_word(arena: &[u32], mv: Move) -> u32
 }
 
 // The move with one word more copied.
-fn one_copied(mv: Move, stage: u32, change: Change, clear: bool) -> Moved
+fn one_copied(mv: Move, stage: u32, change: Option<Put>, clear: bool) -> Moved
     ensures { result ≡ one_copied mv stage change clear }
 {
     let done = one_more(mv.copied);
@@ -113,10 +113,10 @@ fn copy_word(arena: &[u32], mv: Move) -> Moved
     ensures { result ≡ copy_move arena.now mv }
 {
     let lengths = record::lengths_at(arena, mv.from as u32);
-    let change = Change::Put {
+    let change = Some(Put {
         at: record::place(mv.target as u32, mv.copied),
         word: replica_word(arena, mv),
-    };
+    });
     if one_more(mv.copied) == lengths.words {
         one_copied(mv, 3, change, true)
     } else {
@@ -151,10 +151,10 @@ fn commit(control: Control) -> Kept
     next.committed = one_more(control.committed);
     Kept {
         control: next,
-        change: Change::Put {
+        change: Some(Put {
             at: record::place(from, 0),
             word: plain_header(mv.target),
-        },
+        }),
         clear: true,
         answer: Answer::Committed(target),
     }
@@ -191,7 +191,7 @@ fn call_off(control: Control, arena: &[u32]) -> Kept
     next.aborted = one_more(control.aborted);
     Kept {
         control: next,
-        change: Change::Nothing,
+        change: None,
         clear: false,
         answer: Answer::CalledOff,
     }
@@ -218,7 +218,7 @@ fn give_back(control: Control, arena: &[u32]) -> Kept
     let next = end_move(control, arena, mv.from);
     Kept {
         control: next,
-        change: Change::Nothing,
+        change: None,
         clear: false,
         answer: Answer::GivenBack,
     }
@@ -246,7 +246,7 @@ pub fn close(control: Control, arena: &[u32]) -> Kept
         4 => give_back(control, arena),
         _ => Kept {
             control,
-            change: Change::Nothing,
+            change: None,
             clear: false,
             answer: Answer::BarrierOpen,
         },

@@ -164,12 +164,11 @@ pub fn lengths_at(arena: &[u32], cell: u32) -> model::Lengths
 }
 
 // The word that a step changed.
-pub fn apply(arena: &mut [u32], change: model::Change)
+pub fn apply(arena: &mut [u32], change: Option<model::Put>)
     ensures { arena.new ≡ changed arena.old change }
 {
-    match change {
-        model::Change::Nothing => {}
-        model::Change::Put { at, word } => store(arena, at, word),
+    if let Some(put) = change {
+        store(arena, put.at, put.word);
     }
 }
 

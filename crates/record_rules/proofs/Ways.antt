@@ -8,7 +8,8 @@ use lib.Dec.{eqb, leb}
 use borrow.Author.Tests.{eq-eqb, ne_eqb, lt-ltb}
 use Rattle.model.specs.declared.Move.{Move}
 use Rattle.model.specs.Arena.{none, header, plain, label, cells_at}
-use Rattle.model.specs.State.{stage_of, entry, idle}
+use Rattle.model.specs.declared.Stage.TheVariants.{NoMove}
+use Rattle.model.specs.State.{stage_of, entry}
 use Rattle.model.specs.Rules.{is_early, is_late, replica_right, early_right, late_right, R2, numbers_right}
 use Rattle.model.proofs.Choice.{and_yes}
 use Rattle.model.proofs.StageNumbers.{early_not_late}
@@ -49,5 +50,5 @@ module _ (dir : List ℕ) (v : Move) (arena : List ℕ) where
     unfolding R2
     move_idle e f = simp (lt-ltb v.stage 5 h, e, f)
 
-pub numbers_last : (v : Move) → v.meter ≡ 0 → v.from ≡ 0 → v.target ≡ 0 → eqb v.copied 0 ≡ numbers_right idle v 0
+pub numbers_last : (v : Move) → v.meter ≡ 0 → v.from ≡ 0 → v.target ≡ 0 → eqb v.copied 0 ≡ numbers_right NoMove v 0
 numbers_last v a b c = simp (eq-eqb _ _ a, eq-eqb _ _ b, eq-eqb _ _ c)

@@ -3,7 +3,7 @@
 #![tactic(auto)]
 
 ghost use Rattle.std.specs.Prelude.{◌≡◌, ◌+◌, leb, length};
-ghost use Rattle.model.specs.State.{idle};
+ghost use Rattle.model.specs.declared.Stage.TheVariants.{NoMove};
 ghost use Rattle.model.specs.Rules.{record_right, replica_right, early_right, late_right, header_right, numbers_right, R1, R2, R4, R5, R7};
 
 use blocks::{is_early, is_late};
@@ -173,7 +173,7 @@ pub fn headers_right(dir: &[u16; 256], mv: Move, arena: &[u32]) -> bool
 
 // "all 0 when there is none"
 fn no_numbers(mv: Move) -> bool
-    ensures { result ≡ numbers_right idle mv 0 }
+    ensures { result ≡ numbers_right NoMove mv 0 }
 {
     if mv.meter != 0 {
         return false;
