@@ -180,10 +180,9 @@ pub fn fill(control: Control, arena: &[u32], table: &[u32]) -> Reply
             answer: Answer::Refused(k),
         };
     }
-    let map = control.map;
     Reply {
         control,
-        answer: Answer::Done(cells::fill(map)),
+        answer: Answer::Done(cells::fill(&control.map)),
     }
 }
 

@@ -18,6 +18,7 @@ use Rattle.model.proofs.Choice.{order, same_or_not, and_parts, and_true}
 use Rattle.model.proofs.Bits.{no_bit, bit_and_lem, bits_ext}
 use Rattle.model.proofs.CellMap.{used_at, used_lt, set_map, used_run, used_run_other}
 use Rattle.model.proofs.Covers.{covers_in, covers_out}
+use Rattle.cells.specs.declared.Cell.TheVariants.{Used}
 use Rattle.cells.specs.Words.{low_mask, high_mask}
 use Rattle.blocks.specs.Lay.{lay_word, free_word, lay_first, free}
 use Rattle.blocks.proofs.Covers.{covers_by}
@@ -150,7 +151,7 @@ far_block m c n h k p =
     let low = word_out m (c / 64) (low_mask (c % 64) n) (omega arith) in
     let high = word_out m (c / 64 + 1) (high_mask (c % 64) n) (omega arith) in
     let f = and_true (free_word m (c / 64) (low_mask (c % 64) n)) (free_word m (c / 64 + 1) (high_mask (c % 64) n)) low.1 high.1 in
-    (run_past_map m c n true h k p, rw low.0 f)
+    (run_past_map m c n Used h k p, rw low.0 f)
 
 -- how the code's numbers enter: the two masks, the map after the first
 module _ (m : List ℕ) (c n : ℕ) {lo hi : ℕ} {m' : List ℕ}
@@ -161,4 +162,4 @@ module _ (m : List ℕ) (c n : ℕ) {lo hi : ℕ} {m' : List ℕ}
 
   pub block_laid : {m'' : List ℕ} → IsMap m → n < 64 → m'' ≡ lay_word m' (c / 64 + 1) hi → m'' ≡ put_run m c n 1
   unfolding lay_word
-  block_laid map k h = rw (h, g, e, f) (sym (run_by_masks m c n true map k))
+  block_laid map k h = rw (h, g, e, f) (sym (run_by_masks m c n Used map k))

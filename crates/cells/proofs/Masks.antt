@@ -1,16 +1,16 @@
 -- The bits of the two masks of a run, and of a word in which a mask was put. Assumes nothing.
 use mathlib.Core.Path.{◌≡◌, sym, ap, ◌∙◌}
-use mathlib.Core.Bool.{Bool, true, false, not}
 use mathlib.Core.Logic.{◌⊎◌, ⊎_elim}
 use Prim.Native.Nat.{ℕ, ◌+◌, ◌-◌, ◌*◌, ◌/◌, ◌%◌, ◌^◌, ◌≤◌, ◌<◌}
 use native.Mathlib.Nat.{mod-lt, mul-mod_left, sub-zero, one-mul, mod-eq_of_lt}
 use native.Mathlib.Omega.{arith}
 use lib.Bits.{or_lt, and_lt}
 use lib.Pow.{pow_pos, pow-lt, shl-shr, shr_le, ones_lt}
-use Rattle.model.specs.Choice.{one}
 use Rattle.model.specs.Arena.{bit}
 use Rattle.model.proofs.Bits.{bit_lt, no_bit, bit_shr, bit_low, bit_high, bit_not, bit_or_lem, bit_and_lem}
-use Rattle.cells.specs.Words.{low_mask, high_mask, masked, sought}
+use Rattle.cells.specs.declared.Cell.{Cell}
+use Rattle.cells.specs.declared.Cell.TheVariants.{Free, Used}
+use Rattle.cells.specs.Words.{low_mask, high_mask, bit_of, masked, sought, other}
 
 -- `1 << n`
 pub one_shl : (n : ℕ) → n < 64 → 1 * 2 ^ n % 2 ^ 64 ≡ 2 ^ n
@@ -72,27 +72,27 @@ high_fits k n h =
     omega (arith, shr_le ((2 ^ n - 1) / 2 ^ 1) (63 - k), shr_le (2 ^ n - 1) 1)
 
 -- a word in which a mask was put: it fits; the mask's ones are put; the other bits stay
-pub masked_fits : (w mask : ℕ) (to : Bool) → w < 2 ^ 64 → mask < 2 ^ 64 → masked w mask to < 2 ^ 64
-masked_fits w mask true h k = or_lt 64 w mask h k
-masked_fits w mask false h k = and_lt 64 w ((2 ^ 64 - 1) - mask) h (omega arith)
+pub masked_fits : (w mask : ℕ) (to : Cell) → w < 2 ^ 64 → mask < 2 ^ 64 → masked w mask to < 2 ^ 64
+masked_fits w mask Used h k = or_lt 64 w mask h k
+masked_fits w mask Free h k = and_lt 64 w ((2 ^ 64 - 1) - mask) h (omega arith)
 
-pub masked_in : (w mask j : ℕ) (to : Bool) → mask < 2 ^ 64 → j < 64 → bit mask j ≡ 1 → bit (masked w mask to) j ≡ one to
-masked_in w mask j true h hj e = bit_or_lem w mask j ∙ omega (arith, bit_lt w j)
-masked_in w mask j false h hj e = bit_and_lem w ((2 ^ 64 - 1) - mask) j ∙ omega (arith, bit_not 64 mask j h hj)
+pub masked_in : (w mask j : ℕ) (to : Cell) → mask < 2 ^ 64 → j < 64 → bit mask j ≡ 1 → bit (masked w mask to) j ≡ bit_of to
+masked_in w mask j Used h hj e = bit_or_lem w mask j ∙ omega (arith, bit_lt w j)
+masked_in w mask j Free h hj e = bit_and_lem w ((2 ^ 64 - 1) - mask) j ∙ omega (arith, bit_not 64 mask j h hj)
 
-pub masked_out : (w mask j : ℕ) (to : Bool) → mask < 2 ^ 64 → j < 64 → bit mask j ≡ 0 → bit (masked w mask to) j ≡ bit w j
-masked_out w mask j true h hj e = bit_or_lem w mask j ∙ omega arith
-masked_out w mask j false h hj e = bit_and_lem w ((2 ^ 64 - 1) - mask) j ∙ omega (arith, bit_not 64 mask j h hj, bit_lt w j)
+pub masked_out : (w mask j : ℕ) (to : Cell) → mask < 2 ^ 64 → j < 64 → bit mask j ≡ 0 → bit (masked w mask to) j ≡ bit w j
+masked_out w mask j Used h hj e = bit_or_lem w mask j ∙ omega arith
+masked_out w mask j Free h hj e = bit_and_lem w ((2 ^ 64 - 1) - mask) j ∙ omega (arith, bit_not 64 mask j h hj, bit_lt w j)
 
 -- the ones of the sought word are the cells that are sought, its zeros the others
-pub sought_one : (w j : ℕ) (which : Bool) → w < 2 ^ 64 → j < 64 → bit (sought w which) j ≡ 1 → bit w j ≡ one which
-sought_one w j true h hj e = e
-sought_one w j false h hj e = omega (arith, bit_not 64 w j h hj, bit_lt w j)
+pub sought_one : (w j : ℕ) (which : Cell) → w < 2 ^ 64 → j < 64 → bit (sought w which) j ≡ 1 → bit w j ≡ bit_of which
+sought_one w j Used h hj e = e
+sought_one w j Free h hj e = omega (arith, bit_not 64 w j h hj, bit_lt w j)
 
-pub sought_zero : (w j : ℕ) (which : Bool) → w < 2 ^ 64 → j < 64 → bit (sought w which) j ≡ 0 → bit w j ≡ one (not which)
-sought_zero w j true h hj e = e
-sought_zero w j false h hj e = omega (arith, bit_not 64 w j h hj, bit_lt w j)
+pub sought_zero : (w j : ℕ) (which : Cell) → w < 2 ^ 64 → j < 64 → bit (sought w which) j ≡ 0 → bit w j ≡ bit_of (other which)
+sought_zero w j Used h hj e = e
+sought_zero w j Free h hj e = omega (arith, bit_not 64 w j h hj, bit_lt w j)
 
-pub sought_fits : (w : ℕ) (which : Bool) → w < 2 ^ 64 → sought w which < 2 ^ 64
-sought_fits w true h = h
-sought_fits w false h = omega arith
+pub sought_fits : (w : ℕ) (which : Cell) → w < 2 ^ 64 → sought w which < 2 ^ 64
+sought_fits w Used h = h
+sought_fits w Free h = omega arith

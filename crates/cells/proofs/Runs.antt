@@ -1,37 +1,32 @@
 -- A run is put by two masks, one in its first word and one in the next: cell by cell the map is the model's. Assumes nothing.
 use mathlib.Core.Path.{◌≡◌, sym, ap, ◌∙◌}
-use mathlib.Core.Bool.{Bool}
 use mathlib.Core.List.{List}
 use mathlib.Core.Logic.{◌⊎◌, inl, inr, ⊎_elim}
 use Prim.Native.Nat.{ℕ, ◌+◌, ◌/◌, ◌%◌, ◌^◌, ◌≤◌, ◌<◌}
 use native.Mathlib.Omega.{arith}
-use lib.ListN.{get_or, set}
+use lib.ListN.{get_or}
 use lib.Seq.{get_or-set_same, get_or-set_other, set_out}
-use Rattle.model.specs.Choice.{one}
 use Rattle.model.specs.Arena.{bit, used, put_run, IsMap}
 use Rattle.model.proofs.Choice.{order, same_or_not}
-use Rattle.model.proofs.Says.{one_le}
 use Rattle.model.proofs.CellMap.{set_map, run_map, used_run, used_run_other, map_ext}
-use Rattle.cells.specs.Words.{low_mask, high_mask, masked}
+use Rattle.cells.specs.declared.Cell.{Cell}
+use Rattle.cells.specs.declared.Cell.TheVariants.{Free, Used}
+use Rattle.cells.specs.Words.{low_mask, high_mask, bit_of, masked, word_put}
 use Rattle.cells.proofs.Masks.{low_in, low_out, high_in, high_out, low_fits, high_fits, masked_fits, masked_in, masked_out}
 
--- a mask put into word w of the map
-abbrev pub word_put : List ℕ → ℕ → ℕ → Bool → List ℕ
-word_put m w mask to = set m w (masked (get_or m w 0) mask to)
-
-word_map : (m : List ℕ) (w mask : ℕ) (to : Bool) → IsMap m → mask < 2 ^ 64 → IsMap (word_put m w mask to)
+word_map : (m : List ℕ) (w mask : ℕ) (to : Cell) → IsMap m → mask < 2 ^ 64 → IsMap (word_put m w mask to)
 word_map m w mask to h k = set_map m w (masked (get_or m w 0) mask to) h (masked_fits (get_or m w 0) mask to (h.words w) k)
 
 -- a cell of that word that the mask names, one that it does not, and a cell of another word
-word_in : (m : List ℕ) (w mask x : ℕ) (to : Bool) → IsMap m → mask < 2 ^ 64 → x < 1024 → x / 64 ≡ w → bit mask (x % 64) ≡ 1
-    → used (word_put m w mask to) x ≡ one to
+word_in : (m : List ℕ) (w mask x : ℕ) (to : Cell) → IsMap m → mask < 2 ^ 64 → x < 1024 → x / 64 ≡ w → bit mask (x % 64) ≡ 1
+    → used (word_put m w mask to) x ≡ bit_of to
 unfolding used
 word_in m w mask x to h k hx e b =
     ap (λ (i : ℕ). bit (get_or (word_put m w mask to) i 0) (x % 64)) e
     ∙ ap (λ (y : ℕ). bit y (x % 64)) (get_or-set_same m w (masked (get_or m w 0) mask to) 0 (omega (arith, h.sixteen)))
     ∙ masked_in (get_or m w 0) mask (x % 64) to k (omega arith) b
 
-word_out : (m : List ℕ) (w mask x : ℕ) (to : Bool) → IsMap m → mask < 2 ^ 64 → x < 1024 → x / 64 ≡ w → bit mask (x % 64) ≡ 0
+word_out : (m : List ℕ) (w mask x : ℕ) (to : Cell) → IsMap m → mask < 2 ^ 64 → x < 1024 → x / 64 ≡ w → bit mask (x % 64) ≡ 0
     → used (word_put m w mask to) x ≡ used m x
 unfolding used
 word_out m w mask x to h k hx e b =
@@ -39,31 +34,31 @@ word_out m w mask x to h k hx e b =
     ∙ ap (λ (y : ℕ). bit y (x % 64)) (get_or-set_same m w (masked (get_or m w 0) mask to) 0 (omega (arith, h.sixteen)))
     ∙ masked_out (get_or m w 0) mask (x % 64) to k (omega arith) b ∙ ap (λ (i : ℕ). bit (get_or m i 0) (x % 64)) (sym e)
 
-word_other : (m : List ℕ) (w mask x : ℕ) (to : Bool) → (x / 64 ≡ w → ⊥) → used (word_put m w mask to) x ≡ used m x
+word_other : (m : List ℕ) (w mask x : ℕ) (to : Cell) → (x / 64 ≡ w → ⊥) → used (word_put m w mask to) x ≡ used m x
 unfolding used
 word_other m w mask x to ne = ap (λ (y : ℕ). bit y (x % 64)) (get_or-set_other m w (x / 64) (masked (get_or m w 0) mask to) 0 ne)
 
 -- the low mask in c's word, the high mask in the next
-abbrev pub low_put : List ℕ → ℕ → ℕ → Bool → List ℕ
+abbrev pub low_put : List ℕ → ℕ → ℕ → Cell → List ℕ
 low_put m c n to = word_put m (c / 64) (low_mask (c % 64) n) to
 
-abbrev pub both_put : List ℕ → ℕ → ℕ → Bool → List ℕ
+abbrev pub both_put : List ℕ → ℕ → ℕ → Cell → List ℕ
 both_put m c n to = word_put (low_put m c n to) (c / 64 + 1) (high_mask (c % 64) n) to
 
-low_map : (m : List ℕ) (c n : ℕ) (to : Bool) → IsMap m → IsMap (low_put m c n to)
+low_map : (m : List ℕ) (c n : ℕ) (to : Cell) → IsMap m → IsMap (low_put m c n to)
 low_map m c n to h = word_map m (c / 64) (low_mask (c % 64) n) to h (low_fits (c % 64) n)
 
-module _ (m : List ℕ) (c n x : ℕ) (to : Bool) (h : IsMap m) (k : n < 64) (hx : x < 1024) where
-  both_in : c ≤ x → x < c + n → used (both_put m c n to) x ≡ one to
+module _ (m : List ℕ) (c n x : ℕ) (to : Cell) (h : IsMap m) (k : n < 64) (hx : x < 1024) where
+  both_in : c ≤ x → x < c + n → used (both_put m c n to) x ≡ bit_of to
   both_in p q = ⊎_elim same next (same_or_not (x / 64) (c / 64))
     where
-      same : x / 64 ≡ c / 64 → used (both_put m c n to) x ≡ one to
+      same : x / 64 ≡ c / 64 → used (both_put m c n to) x ≡ bit_of to
       same e =
           word_other (low_put m c n to) (c / 64 + 1) (high_mask (c % 64) n) x to (λ g. omega arith)
           ∙ word_in m (c / 64) (low_mask (c % 64) n) x to h (low_fits (c % 64) n) hx e
           (low_in (c % 64) n (x % 64) (omega arith) (omega arith) (omega arith))
 
-      next : (x / 64 ≡ c / 64 → ⊥) → used (both_put m c n to) x ≡ one to
+      next : (x / 64 ≡ c / 64 → ⊥) → used (both_put m c n to) x ≡ bit_of to
       next ne =
           word_in (low_put m c n to) (c / 64 + 1) (high_mask (c % 64) n) x to (low_map m c n to h) (high_fits (c % 64) n k) hx (omega arith)
           (high_in (c % 64) n (x % 64) (omega arith) (omega arith))
@@ -88,31 +83,26 @@ module _ (m : List ℕ) (c n x : ℕ) (to : Bool) (h : IsMap m) (k : n < 64) (hx
       other ne me =
           word_other (low_put m c n to) (c / 64 + 1) (high_mask (c % 64) n) x to me ∙ word_other m (c / 64) (low_mask (c % 64) n) x to ne
 
-one_lt : (to : Bool) → one to < 2
-one_lt to = omega (arith, one_le to)
+bit_lt_two : (to : Cell) → bit_of to < 2
+bit_lt_two Free = omega arith
+bit_lt_two Used = omega arith
 
 -- THE LAW: a run of fewer than 64 cells, put anywhere, is the two masks put
-pub run_by_masks : (m : List ℕ) (c n : ℕ) (to : Bool) → IsMap m → n < 64 → put_run m c n (one to) ≡ both_put m c n to
+pub run_by_masks : (m : List ℕ) (c n : ℕ) (to : Cell) → IsMap m → n < 64 → put_run m c n (bit_of to) ≡ both_put m c n to
 run_by_masks m c n to h k =
-    map_ext (put_run m c n (one to)) (both_put m c n to) (run_map m c n (one to) h (one_lt to))
+    map_ext (put_run m c n (bit_of to)) (both_put m c n to) (run_map m c n (bit_of to) h (bit_lt_two to))
     (word_map (low_put m c n to) (c / 64 + 1) (high_mask (c % 64) n) to (low_map m c n to h) (high_fits (c % 64) n k))
     (λ x hx. ⊎_elim (λ p. outside x hx (inl p)) (λ p. ⊎_elim (inside x hx p) (λ q. outside x hx (inr q)) (order x (c + n))) (order x c))
   where
-    inside : (x : ℕ) → x < 1024 → c ≤ x → x < c + n → used (put_run m c n (one to)) x ≡ used (both_put m c n to) x
-    inside x hx p q = used_run m c n (one to) x h (one_lt to) p q hx ∙ sym (both_in m c n x to h k hx p q)
+    inside : (x : ℕ) → x < 1024 → c ≤ x → x < c + n → used (put_run m c n (bit_of to)) x ≡ used (both_put m c n to) x
+    inside x hx p q = used_run m c n (bit_of to) x h (bit_lt_two to) p q hx ∙ sym (both_in m c n x to h k hx p q)
 
-    outside : (x : ℕ) → x < 1024 → (x < c) ⊎ (c + n ≤ x) → used (put_run m c n (one to)) x ≡ used (both_put m c n to) x
-    outside x hx o = used_run_other m c n (one to) x (one_lt to) o ∙ sym (both_out m c n x to h k hx o)
+    outside : (x : ℕ) → x < 1024 → (x < c) ⊎ (c + n ≤ x) → used (put_run m c n (bit_of to)) x ≡ used (both_put m c n to) x
+    outside x hx o = used_run_other m c n (bit_of to) x (bit_lt_two to) o ∙ sym (both_out m c n x to h k hx o)
 
--- where the run starts past the map nothing is put, and where it starts in the last word the low mask is all
-pub run_past_map : (m : List ℕ) (c n : ℕ) (to : Bool) → IsMap m → n < 64 → 1024 ≤ c → put_run m c n (one to) ≡ m
+-- where the run starts past the map nothing is put
+pub run_past_map : (m : List ℕ) (c n : ℕ) (to : Cell) → IsMap m → n < 64 → 1024 ≤ c → put_run m c n (bit_of to) ≡ m
 run_past_map m c n to h k p =
     let low : low_put m c n to ≡ m = set_out m (c / 64) (masked (get_or m (c / 64) 0) (low_mask (c % 64) n) to) (omega (arith, h.sixteen)) in
     run_by_masks m c n to h k ∙ ap (λ (l : List ℕ). word_put l (c / 64 + 1) (high_mask (c % 64) n) to) low
     ∙ set_out m (c / 64 + 1) (masked (get_or m (c / 64 + 1) 0) (high_mask (c % 64) n) to) (omega (arith, h.sixteen))
-
-pub run_in_last : (m : List ℕ) (c n : ℕ) (to : Bool) → IsMap m → n < 64 → c / 64 ≡ 15 → put_run m c n (one to) ≡ low_put m c n to
-run_in_last m c n to h k e =
-    let l : List ℕ = low_put m c n to in
-    run_by_masks m c n to h k
-    ∙ set_out l (c / 64 + 1) (masked (get_or l (c / 64 + 1) 0) (high_mask (c % 64) n) to) (omega (arith, (low_map m c n to h).sixteen))

@@ -8,6 +8,7 @@ ghost use Rattle.model.specs.KeeperSteps.{first_move};
 ghost use Rattle.model.specs.Choice.{given};
 ghost use Rattle.keeper.specs.Kept.{refused_kept, record_refusals, new_refusals, retire_step, begin_step, admit_step, admit_arena};
 
+use cells::Cell;
 use directory::{entry_of, set_entry};
 use model::{Answer, Control, Move, Put};
 use mover::Kept;
@@ -71,10 +72,8 @@ pub fn retire(control: Control, arena: &[u32], held: bool, meter: u32) -> Kept
         return refused(control, 11);
     }
     let cell = entry_of(&control.dir, meter);
-    let old = control.map;
-    let map = mover::free_block(old, arena, cell, cell);
     let mut next = control;
-    next.map = map;
+    mover::free_block(&mut next.map, arena, cell, cell);
     set_entry(&mut next.dir, meter, NONE);
     Kept {
         control: next,
@@ -118,10 +117,9 @@ pub fn begin(control: Control, arena: &[u32], meter: u32) -> Kept
     if control.begun == LAST {
         return refused(control, 15);
     }
-    let map = cells::take_run(old, target, lengths.cells);
     let first = first_move(meter, from, target as u16);
     let mut next = control;
-    next.map = map;
+    cells::put_run(&mut next.map, target, lengths.cells, Cell::Used);
     next.mv = first;
     next.begun = mover::one_more(control.begun);
     Kept {
@@ -168,9 +166,8 @@ pub fn admit(control: Control, arena: &mut [u32], meter: u32, kind: u32) -> Kept
         return refused(control, 12);
     }
     record::lay_record(arena, cell as u16, meter as u8, kind as u8);
-    let map = cells::take_run(old, cell, lengths.cells);
     let mut next = control;
-    next.map = map;
+    cells::put_run(&mut next.map, cell, lengths.cells, Cell::Used);
     set_entry(&mut next.dir, meter, cell as u16);
     Kept {
         control: next,

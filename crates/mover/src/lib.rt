@@ -9,6 +9,7 @@ ghost use Rattle.model.specs.KeeperSteps.{replica_word};
 ghost use Rattle.mover.specs.Kept.{stays, open_first, one_copied, copy_move, advance_move, commit_kept, end_move, call_off_kept};
 ghost use Rattle.mover.specs.Kept.{settle_kept, give_back_kept, closing, close_kept};
 
+use cells::Cell;
 use directory::set_entry;
 use model::{Answer, Control, Move, Put};
 
@@ -161,23 +162,20 @@ fn commit(control: Control) -> Kept
 }
 
 // "cells free": those of the block at a cell that is as long as the record at `from`.
-pub fn free_block(map: [u64; 16], arena: &[u32], from: u16, cell: u16) -> [u64; 16]
-    ensures { result ≡ put_run map cell (cells_at arena.now from) 0 }
+pub fn free_block(map: &mut [u64; 16], arena: &[u32], from: u16, cell: u16)
+    ensures { map.new ≡ put_run map.old cell (cells_at arena.now from) 0 }
 {
     let lengths = record::lengths_at(arena, from as u32);
-    cells::free_run(map, cell as u32, lengths.cells)
+    cells::put_run(map, cell as u32, lengths.cells, Cell::Free);
 }
 
 // The block at a cell is freed, as long as the moved record; "no move in hand".
 fn end_move(control: Control, arena: &[u32], cell: u16) -> Control
     ensures { result ≡ end_move control arena.now cell }
 {
-    let mv = control.mv;
-    let old = control.map;
-    let map = free_block(old, arena, mv.from, cell);
     let none = NO_MOVE;
     let mut next = control;
-    next.map = map;
+    free_block(&mut next.map, arena, control.mv.from, cell);
     next.mv = none;
     next
 }

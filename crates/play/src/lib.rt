@@ -165,9 +165,8 @@ fn totals(control: Control, table: &[u32], out: &mut [u8], at: usize) -> usize
         (five_totals control.begun control.committed control.aborted
         (total swaps_of (rows_read table.now)) (fill control.map)) }
 {
-    let map = control.map;
     let swaps = table::all_swaps(table);
-    let filled = cells::fill(map);
+    let filled = cells::fill(&control.map);
     script::printing::put_totals(
         out,
         at,

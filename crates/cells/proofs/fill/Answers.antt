@@ -1,37 +1,38 @@
--- `fill`: after i words the sum is the used cells among the first 64 i.
-use Rattle.std.proofs.Common.{rules, ◌≡◌, refl, sym, ap, ◌∙◌, List, ℕ, ◌+◌, ◌*◌, arith}
-use lib.ListN.{get_or}
+-- `fill`: the chain gives the sum of the words' ones, and a word's ones are its used cells.
+use Rattle.std.proofs.Common.{rules, tests, ◌≡◌, sym, ap, ◌∙◌, List, ℕ, zero, suc, ◌+◌, ◌*◌, ◌≤◌, take, get_or, sum_by, add-one, arith}
+use Rattle.std.proofs.lemmas.Iterator.{YieldsList-from_slice, YieldsList-from_map}
+use Rattle.std.proofs.lemmas.Iterator.Consumers.{sum_by_from_yields_List, fits_by_from_yields_list}
+use Rattle.std.proofs.lemmas.List.Sums.{sum_by_more}
 use lib.Count.{ones}
-use mir.Syntax.{w64}
-use mir.Val.{Fits}
+use lib.Seq.{take-length}
 use Rattle.model.specs.Arena.{count_used, fill, IsMap}
 use Rattle.model.proofs.MapCount.{count_word, count_le}
 use Rattle.cells.proofs.fill.Goals as goal
 
--- the sum after the turn
-more : (m : List ℕ) (i sum : ℕ) → IsMap m → sum ≡ count_used m (64 * i)
-    → sum + ones (get_or m i 0) ≡ count_used m (64 * (i + 1))
-more m i sum h e = ap (λ (n : ℕ). n + ones (get_or m i 0)) e ∙ sym (count_word m i h)
-
-pub loop-i-init : goal.loop-i-init
+-- the ones of the first i words are the used cells among the first 64 i
+ones_so_far : (m : List ℕ) (i : ℕ) → IsMap m → i ≤ 16 → sum_by ones (take i m) ≡ count_used m (64 * i)
 unfolding count_used
-loop-i-init c = (search rules, refl)
+ones_so_far m zero h k = search rules
+ones_so_far m (suc i) h k =
+    ap (λ (j : ℕ). sum_by ones (take j m)) (sym (add-one i)) ∙ sum_by_more ones m i 0 (omega (arith, h.sixteen))
+    ∙ ap (λ (n : ℕ). n + ones (get_or m i 0)) (ones_so_far m i h (omega arith)) ∙ sym (count_word m i h)
+    ∙ ap (λ (j : ℕ). count_used m (64 * j)) (add-one i)
 
-pub overflow_add-sum : goal.overflow_add-sum
-overflow_add-sum c =
-    let m = c.args.map in
-    let h : IsMap m = record { sixteen = search rules; words = λ i. let f : Fits w64 (get_or m i 0) = search rules in f.fits } in
-    let e = more m c.loop-i.i c.loop-i.sum h c.loop-i.invariant.1 in
-    omega (arith, e, count_le m (64 * (c.loop-i.i + 1)))
+ones_fill : (m : List ℕ) → IsMap m → sum_by ones m ≡ fill m
+unfolding fill
+ones_fill m h = ap (sum_by ones) (sym (take-length m)) ∙ ap (λ (j : ℕ). sum_by ones (take j m)) h.sixteen ∙ ones_so_far m 16 h (omega arith)
 
-pub loop-i-preserved : goal.loop-i-preserved
-loop-i-preserved c =
-    let m = c.args.map in
-    let h : IsMap m = record { sixteen = search rules; words = λ i. let f : Fits w64 (get_or m i 0) = search rules in f.fits } in
-    (search rules, more m c.loop-i.i c.loop-i.sum h c.loop-i.invariant.1)
+pub sum-requires-clause-fits : goal.sum-requires-clause-fits
+unfolding fill
+sum-requires-clause-fits c =
+    let m = c.args.map.now in
+    fits_by_from_yields_list ones m c.map.result _
+    (YieldsList-from_map _ ones (YieldsList-from_slice m cc) c.map.ensures.closure (λ x r q k. search (rules, tests)))
+    (omega (arith, ones_fill m (record { sixteen = c.told-map; words = c.fits-map }), count_le m 1024))
 
 pub returns : goal.returns
-unfolding fill
 returns c =
-    let e : c.loop-i.i ≡ 16 = omega arith in
-    c.loop-i.invariant.1 ∙ ap (λ (k : ℕ). count_used c.args.map (64 * k)) e
+    let m = c.args.map.now in
+    sum_by_from_yields_List ones m c.map.result _ c.sum.ensures.ran
+    (YieldsList-from_map _ ones (YieldsList-from_slice m cc) c.map.ensures.closure (λ x r q k. search (rules, tests)))
+    ∙ ones_fill m (record { sixteen = c.told-map; words = c.fits-map })

@@ -40,8 +40,8 @@ pub overflow_cast-cell : goal.overflow_cast-cell
 overflow_cast-cell c =
     omega (arith, c.lowest_run-cell.ensures, lowest_fits c.args.control.map c.lengths_of-lengths.result.cells)
 
-pub take_run-map-requires : goal.take_run-map-requires
-take_run-map-requires c = rw c.lengths_of-lengths.ensures (cells_short _)
+pub put_run-requires : goal.put_run-requires
+put_run-requires c = rw c.lengths_of-lengths.ensures (cells_short _)
 
 pub overflow_cast-cell-2 : goal.overflow_cast-cell-2
 overflow_cast-cell-2 c =
@@ -54,7 +54,7 @@ returns-clause-kept c =
     let t = rw c.lengths_of-lengths.ensures at c.lowest_run-cell.ensures in
     let none = rw t at c.if-cell-eq-NOWHERE.false in
     rw (admit_done a.control a.meter a.kind (refused_kept a.control) _ (none_applied c.admit_refusal-n.ensures c.if-n-gt0.false) none)
-    (simp (c.set_entry.ensures, c.take_run-map.ensures, t, c.lengths_of-lengths.ensures))
+    (simp (c.set_entry.ensures, c.put_run.ensures, t, c.lengths_of-lengths.ensures))
 
 pub returns-clause-laid : goal.returns-clause-laid
 unfolding admit_arena

@@ -31,8 +31,8 @@ returns-then-control c =
     (none_applied c.record_refusal-n.ensures c.if-n-gt0.false)
     (rw (w, t) at c.if-cell-target.false) c.if-control.true)
 
-pub take_run-map-requires : goal.take_run-map-requires
-take_run-map-requires c = rw c.lengths_at-lengths.ensures (cells_short _)
+pub put_run-requires : goal.put_run-requires
+put_run-requires c = rw c.lengths_at-lengths.ensures (cells_short _)
 
 pub returns : goal.returns
 returns c =
@@ -47,7 +47,7 @@ returns c =
       c.place.ensures,
       c.one_more.ensures,
       c.first_move-first.ensures,
-      c.take_run-map.ensures,
+      c.put_run.ensures,
       t,
       c.lengths_at-lengths.ensures,
       w,

@@ -23,4 +23,4 @@ returns c =
     let a = c.args in
     rw (retire_done a.control a.arena.now a.held a.meter (none_applied c.record_refusal-n.ensures c.if-n-gt0.false)
     c.if-held.false)
-    (simp (c.set_entry.ensures, c.free_block-map.ensures, c.entry_of-cell.ensures))
+    (simp (c.set_entry.ensures, c.free_block.ensures, c.entry_of-cell.ensures))

@@ -2,5 +2,5 @@
 use Rattle.model.proofs.ByKind.{cells_short}
 use Rattle.mover.proofs.free_block.Goals as goal
 
-pub free_run-requires : goal.free_run-requires
-free_run-requires c = rw c.lengths_at-lengths.ensures (cells_short _)
+pub put_run-requires : goal.put_run-requires
+put_run-requires c = rw c.lengths_at-lengths.ensures (cells_short _)
