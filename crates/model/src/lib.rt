@@ -4,7 +4,7 @@
 #![tactic(auto)]
 
 // "Four record kinds, by a fixed table": a line of it.
-#[derive(Clone, Copy)]
+#[derive(Clone, Copy, Default)]
 pub struct Lengths {
     pub cells: u32,
     pub words: u32,

@@ -2,23 +2,81 @@
 // Knows nothing of directory, map, clients or soundness; each function is total.
 #![tactic(auto)]
 
-ghost use Rattle.std.specs.Prelude.{◌≡◌, eqb, get_or, set, replicate};
+ghost use Rattle.std.specs.Prelude.{◌≡◌, true, false, eqb, get_or, set, replicate};
 ghost use Rattle.model.specs.Arena.{of_kind, start, place, header, plain, flagged, label, label_of, kind_of, payload_place, new_record, laid};
 ghost use Rattle.model.specs.ClientSteps.{changed};
 ghost use Rattle.record.specs.Words.{unpacked, packed, unpacked_label};
 
 // "2 × target cell + flag: the lowest bit says that the record is being copied"
-#[derive(Clone, Copy)]
+#[derive(Clone, Copy, PartialEq, Eq)]
 pub struct Header {
     pub target: u32,
     pub flag: bool,
 }
 
+impl Header {
+    // "2 × cell": the header of a record that is not being copied.
+    pub fn plain(cell: u32) -> Header
+        ensures { result ≡ record { target = cell; flag = false } }
+    {
+        Header {
+            target: cell,
+            flag: false,
+        }
+    }
+
+    // "2 × cell + 1": of one that is.
+    pub fn flagged(cell: u32) -> Header
+        ensures { result ≡ record { target = cell; flag = true } }
+    {
+        Header {
+            target: cell,
+            flag: true,
+        }
+    }
+}
+
+impl From<u32> for Header {
+    ghost use Rattle.record.specs.Words.{unpacked};
+
+    ghost from_gives = { λ h header. header ≡ unpacked h };
+
+    fn from(h: u32) -> Header {
+        Header {
+            target: h >> 1,
+            flag: h & 1 == 1,
+        }
+    }
+}
+
+impl From<Header> for u32 {
+    ghost use Rattle.record.specs.Words.{packed};
+
+    ghost from_gives = { λ header h. h ≡ packed header.target header.flag };
+
+    fn from(header: Header) -> u32 {
+        (header.target << 1) | (header.flag as u32)
+    }
+}
+
 // "the label, 4 × meter + kind"
-#[derive(Clone, Copy)]
+#[derive(Clone, Copy, PartialEq, Eq)]
 pub struct Label {
     pub meter: u32,
     pub kind: u32,
+}
+
+impl From<u32> for Label {
+    ghost use Rattle.record.specs.Words.{unpacked_label};
+
+    ghost from_gives = { λ l label. label ≡ unpacked_label l };
+
+    fn from(l: u32) -> Label {
+        Label {
+            meter: l >> 2,
+            kind: l & 3,
+        }
+    }
 }
 
 // "Four record kinds, by a fixed table": cells, words, payload words.
@@ -48,47 +106,33 @@ const KINDS: [model::Lengths; 4] = [
 pub fn unpack(h: u32) -> Header
     ensures { result ≡ unpacked h }
 {
-    Header {
-        target: h >> 1,
-        flag: h & 1 == 1,
-    }
+    Header::from(h)
 }
 
 pub fn pack(target: u32, flag: bool) -> u32
     ensures { result ≡ packed target flag }
 {
-    (target << 1) | (flag as u32)
+    u32::from(Header { target, flag })
 }
 
 // "2 × cell": the header of a record that is not being copied.
 pub fn is_plain(h: u32, cell: u32) -> bool
     ensures { result ≡ eqb h (plain cell) }
 {
-    let x = unpack(h);
-    if x.flag {
-        return false;
-    }
-    x.target == cell
+    Header::from(h) == Header::plain(cell)
 }
 
 // "2 × cell + 1": of one that is.
 pub fn is_flagged(h: u32, cell: u32) -> bool
     ensures { result ≡ eqb h (flagged cell) }
 {
-    let header = unpack(h);
-    if !header.flag {
-        return false;
-    }
-    header.target == cell
+    Header::from(h) == Header::flagged(cell)
 }
 
 pub fn unpack_label(l: u32) -> Label
     ensures { result ≡ unpacked_label l }
 {
-    Label {
-        meter: l >> 2,
-        kind: l & 3,
-    }
+    Label::from(l)
 }
 
 fn pack_label(meter: u8, kind: u8) -> u32
@@ -98,18 +142,11 @@ fn pack_label(meter: u8, kind: u8) -> u32
 }
 
 // The lengths of a kind; a kind above 3 has none.
+#[tactic(auto, unfolding(model::specs::Arena::of_kind, model::specs::Arena::kind_table))]
 pub fn lengths_of(kind: u32) -> model::Lengths
     ensures { result ≡ of_kind kind }
 {
-    if kind < 4 {
-        KINDS[kind as usize]
-    } else {
-        model::Lengths {
-            cells: 0,
-            words: 0,
-            payload: 0,
-        }
-    }
+    KINDS.get(kind as usize).copied().unwrap_or_default()
 }
 
 // "cell c starts at word 8c"
@@ -130,7 +167,7 @@ pub fn payload_place(cell: u32, word: u32) -> usize
 pub fn load(arena: &[u32], at: usize) -> u32
     ensures { result ≡ get_or arena.now at 0 }
 {
-    if at < arena.len() { arena[at] } else { 0 }
+    arena.get(at).copied().unwrap_or(0)
 }
 
 // A word of the arena becomes w; past its end nothing is written.
@@ -140,6 +177,20 @@ pub fn store(arena: &mut [u32], at: usize, w: u32)
     if at < arena.len() {
         arena[at] = w;
     }
+}
+
+// Word 0 of the record at a cell.
+pub fn read_header(arena: &[u32], cell: u32) -> Header
+    ensures { result ≡ unpacked (header arena.now cell) }
+{
+    Header::from(load(arena, place(cell, 0)))
+}
+
+// "Word 1 is the label"
+pub fn read_label(arena: &[u32], cell: u32) -> Label
+    ensures { result ≡ unpacked_label (label arena.now cell) }
+{
+    Label::from(load(arena, place(cell, 1)))
 }
 
 pub fn header_at(arena: &[u32], cell: u32) -> u32
@@ -159,8 +210,7 @@ pub fn label_at(arena: &[u32], cell: u32) -> u32
 pub fn lengths_at(arena: &[u32], cell: u32) -> model::Lengths
     ensures { result ≡ of_kind (kind_of (label arena.now cell)) }
 {
-    let l = unpack_label(label_at(arena, cell));
-    lengths_of(l.kind)
+    lengths_of(read_label(arena, cell).kind)
 }
 
 // The word that a step changed.
@@ -176,10 +226,8 @@ pub fn apply(arena: &mut [u32], change: Option<model::Put>)
 fn clear_payload(arena: &mut [u32], cell: u32, n: u32)
     ensures { arena.new ≡ laid arena.old (payload_place cell 0) (replicate n 0) }
 {
-    let mut i = 0;
-    while i < n {
+    for i in 0..n {
         store(arena, payload_place(cell, i), 0);
-        i += 1;
     }
 }
 
@@ -189,7 +237,7 @@ pub fn lay_record(arena: &mut [u32], c: u16, meter: u8, kind: u8)
 {
     let cell = c as u32;
     let lengths = lengths_of(kind as u32);
-    store(arena, place(cell, 0), pack(cell, false));
+    store(arena, place(cell, 0), u32::from(Header::plain(cell)));
     store(arena, place(cell, 1), pack_label(meter, kind));
     clear_payload(arena, cell, lengths.payload);
 }

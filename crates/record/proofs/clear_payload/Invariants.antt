@@ -6,6 +6,3 @@ use Rattle.record.proofs.clear_payload.Given as goal
 
 abbrev pub invariant-loop-i : goal.invariant-loop-i
 invariant-loop-i l = (l.arena ≡ laid l.initial.arena (payload_place l.cell 0) (replicate l.i 0)) × (l.i ≤ l.n)
-
-abbrev pub decreases-loop-i : goal.decreases-loop-i
-decreases-loop-i l = l.n - l.i

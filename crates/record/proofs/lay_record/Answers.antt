@@ -22,5 +22,5 @@ returns c =
     c.clear_payload.ensures
     ∙ simp
     (c.store-2.ensures, c.store.ensures, c.place-2.ensures, c.place.ensures)
-    (simp (c.pack_label.ensures, c.pack.ensures, e, c.lengths_of-lengths.ensures)
+    (simp (c.pack_label.ensures, c.from.ensures, c.plain.ensures, e, c.lengths_of-lengths.ensures)
     (header_label_zeros _ _ _ _))

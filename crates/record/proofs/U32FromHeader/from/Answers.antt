@@ -6,7 +6,7 @@ use lib.Dec.{lit<}
 use mir.Val.{bool_byte}
 use Rattle.model.specs.Choice.{one}
 use Rattle.record.specs.Words.{packed}
-use Rattle.record.proofs.pack.Goals as goal
+use Rattle.record.proofs.U32FromHeader.from.Goals as goal
 
 doubled : (t : ℕ) → t * 2 % 2 ^ 32 ≡ t % 2 ^ 31 * 2
 doubled t = omega arith
@@ -17,4 +17,4 @@ flag_added t false = or_shifted (t % 2 ^ 31) 1 0 (lit< tt)
 
 pub returns : goal.returns
 unfolding packed
-returns c = simp (mul_comm 2, doubled) (flag_added c.args.target c.args.flag)
+returns c = simp (mul_comm 2, doubled) (flag_added c.args.header.target c.args.header.flag)
