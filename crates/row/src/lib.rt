@@ -23,10 +23,7 @@ pub fn choose(test: bool, x: u32, y: u32) -> u32
 pub fn hold_of(holds: [u32; 4], hold: u32) -> u32
     ensures { result ≡ get_or holds hold none }
 {
-    let h3 = choose(hold == 3, holds[3], NONE);
-    let h2 = choose(hold == 2, holds[2], h3);
-    let h1 = choose(hold == 1, holds[1], h2);
-    choose(hold == 0, holds[0], h1)
+    holds.get(hold as usize).copied().unwrap_or(NONE)
 }
 
 // A hold becomes a cell; a hold above 3 is none.
@@ -44,40 +41,20 @@ pub fn set_hold(holds: [u32; 4], hold: u32, cell: u32) -> [u32; 4]
 pub fn is_among(holds: [u32; 4], cell: u32) -> bool
     ensures { result ≡ any (eqb cell) holds }
 {
-    if cell == holds[0] {
-        return true;
-    }
-    if cell == holds[1] {
-        return true;
-    }
-    if cell == holds[2] {
-        return true;
-    }
-    cell == holds[3]
+    holds.contains(&cell)
 }
 
 // A busy row does not rest.
 pub fn is_busy(phase: Phase) -> bool
     ensures { result ≡ busy phase }
 {
-    match phase {
-        Phase::Resting => false,
-        Phase::Ready(_, _) => true,
-        Phase::Waiting(_, _) => true,
-    }
+    !matches!(phase, Phase::Resting)
 }
 
 pub fn with_phase(row: Row, phase: Phase) -> Row
     ensures { result ≡ with_phase row phase }
 {
-    let holds = row.holds;
-    Row {
-        attached: row.attached,
-        passed: row.passed,
-        holds,
-        swaps: row.swaps,
-        phase,
-    }
+    Row { phase, ..row }
 }
 
 // "the access (read or write, hold, word, value), value 0 for a read"
@@ -95,12 +72,7 @@ pub fn hold_number(x: Access) -> u32
     ensures { result ≡ hold_of x }
 {
     match x {
-        Access::Read { hold, word: _ } => hold,
-        Access::Write {
-            hold,
-            word: _,
-            value: _,
-        } => hold,
+        Access::Read { hold, .. } | Access::Write { hold, .. } => hold,
     }
 }
 
@@ -108,11 +80,6 @@ pub fn word_number(x: Access) -> u32
     ensures { result ≡ word_of x }
 {
     match x {
-        Access::Read { hold: _, word } => word,
-        Access::Write {
-            hold: _,
-            word,
-            value: _,
-        } => word,
+        Access::Read { word, .. } | Access::Write { word, .. } => word,
     }
 }
