@@ -1,15 +1,11 @@
 -- What a call on rows does: its answer, the control record, each word of the arena and each row of the table, as the model's call
 -- has them.
-use Rattle.std.specs.Prelude.{◌≡◌, false, List, [], ℕ, eqb}
+use Rattle.std.specs.Prelude.{◌≡◌, List, ℕ, Option, Some, None}
 use Rattle.model.specs.declared.Row.{Row}
-use Rattle.model.specs.declared.Control.{Control}
 use Rattle.model.specs.declared.Answer.{Answer}
-use Rattle.model.specs.declared.Answer.TheVariants.{Refused}
-use Rattle.model.specs.Choice.{pick}
 use Rattle.model.specs.State.{State, Outcome}
 use Rattle.model.specs.Steps.{Ran}
-use Rattle.rows.specs.declared.Eight.{Eight}
-use Rattle.rows.specs.Eight.{rows_in}
+use Rattle.rows.specs.Eight.{taken, put_back}
 use Rattle.archive.specs.declared.Reply.{Reply}
 use Rattle.byrow.specs.declared.Done.{Done}
 
@@ -34,19 +30,19 @@ pub record Looks (r : Reply) (o : Outcome) : Type 0 where
   pub answer : r.answer ≡ o.answer
   pub control : r.control ≡ o.next.control
 
--- the table that has n rows, these where it has eight; of any other length no row is looked at
-unfoldable pub table_of : ℕ → Eight → List Row
-table_of n e = pick (eqb n 8) (rows_in e) []
+-- the table after a call on its rows: those that come back are put back; where none do, it is as it was
+abbrev pub table_left : List Row → Option (List Row) → List Row
+table_left t None = t
+table_left t (Some rows) = put_back t rows
 
--- the same of the eight rows by value of a table that has n: where n is not eight, they come back as they were
-pub record DoesRows (n : ℕ) (before : Eight) (d : Done) (a : List ℕ) (o : Outcome) : Type 0 where
-  pub does : Does d.reply a (table_of n d.rows) o
-  pub other : eqb n 8 ≡ false → d.rows ≡ before
+-- the same of the rows that were taken out of a table, whichever it was; where it had not eight, none come back
+pub record DoesRows (before : Option (List Row)) (d : Done) (a : List ℕ) (call : List Row → Outcome) : Type 0 where
+  pub does : (t : List Row) → taken t ≡ before → Does d.reply a (table_left t d.rows) (call t)
+  pub other : before ≡ None → d.rows ≡ before
 
-pub record RunsRows (n : ℕ) (before : Eight) (d : Done) (a l : List ℕ) (o : Ran) : Type 0 where
-  pub runs : Runs d.reply a (table_of n d.rows) l o
-  pub other : eqb n 8 ≡ false → d.rows ≡ before
+pub record RunsRows (before : Option (List Row)) (d : Done) (a l : List ℕ) (call : List Row → Ran) : Type 0 where
+  pub runs : (t : List Row) → taken t ≡ before → Runs d.reply a (table_left t d.rows) l (call t)
+  pub other : before ≡ None → d.rows ≡ before
 
--- 1 "table not eight rows"
-abbrev pub turned_down : Control → Eight → Done
-turned_down c e = record { reply = record { control = c; answer = Refused 1 }; rows = e }
+pub record LooksRows (before : Option (List Row)) (r : Reply) (call : List Row → Outcome) : Type 0 where
+  pub looks : (t : List Row) → taken t ≡ before → Looks r (call t)

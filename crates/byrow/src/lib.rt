@@ -1,5 +1,5 @@
 // The calls on eight rows by value: their words are made, `archive` works on them, the rows are read back.
-// The caller says how many rows its table has; of any other number than eight no row is looked at, and they come back as they were.
+// Where a table has not eight rows there are none by value: no row is looked at, and none come back.
 #![tactic(auto)]
 
 ghost use Rattle.std.specs.Prelude.{◌≡◌};
@@ -7,158 +7,145 @@ ghost use Rattle.model.specs.Choice.{All};
 ghost use Rattle.model.specs.Rows.{FourHolds};
 ghost use Rattle.model.specs.State.{state};
 ghost use Rattle.model.specs.Steps.{step, fresh_call, step_call, run_call, fill_call, audit_call};
-ghost use Rattle.table.specs.Words.{table_words, row_read, rows_read, put_row};
-ghost use Rattle.rows.specs.Eight.{rows_in};
-ghost use Rattle.byrow.specs.Does.{DoesRows, RunsRows, Looks, table_of, turned_down};
+ghost use Rattle.table.specs.Words.{table_words, rows_read, put_row};
+ghost use Rattle.byrow.specs.Does.{DoesRows, RunsRows, LooksRows};
+ghost use Rattle.byrow.specs.OnWords.{OnWords, turned_down};
 
 use archive::Reply;
 use model::{Answer, Control, Row};
-use rows::Eight;
 
 // What a call leaves: the reply, and the rows.
 #[derive(Clone, Copy)]
 pub struct Done {
     pub reply: Reply,
-    pub rows: Eight,
+    pub rows: Option<[Row; 8]>,
 }
 
-// Row i of the words becomes `row`.
-fn put(t: [u32; 96], i: u32, row: Row) -> [u32; 96]
-    ensures { result ≡ put_row t i row }
+// Row i of the words becomes `row`: one by value has four holds, as its type says.
+fn put(words: &mut [u32; 96], i: u32, row: Row)
+    ensures words { words.new ≡ put_row words.old i row }
+    ensures holds { FourHolds row }
 {
-    let mut u = t;
-    table::put_row_at(&mut u, i, row);
-    u
-}
-
-// Row i as the words have it.
-fn get(t: [u32; 96], i: u32) -> Row
-    ensures { result ≡ row_read t i }
-{
-    table::row_at(&t, i)
+    table::put_row_at(words, i, row);
 }
 
 // The words of the rows, each of which has four holds.
-fn words_of(rows: Eight) -> [u32; 96]
-    ensures { (result ≡ table_words (rows_in rows)) × All FourHolds (rows_in rows) }
+fn words_of(rows: &[Row; 8]) -> [u32; 96]
+    ensures words { result ≡ table_words rows.now }
+    ensures holds { All FourHolds rows.now }
 {
-    let none = [0; 96];
-    let t0 = put(none, 0, rows.r0);
-    let t1 = put(t0, 1, rows.r1);
-    let t2 = put(t1, 2, rows.r2);
-    let t3 = put(t2, 3, rows.r3);
-    let t4 = put(t3, 4, rows.r4);
-    let t5 = put(t4, 5, rows.r5);
-    let t6 = put(t5, 6, rows.r6);
-    put(t6, 7, rows.r7)
+    let mut words = [0; 96];
+    for (i, row) in rows.iter().enumerate() {
+        put(&mut words, i as u32, *row);
+    }
+    words
 }
 
 // The rows as the words have them.
-fn rows_of(t: [u32; 96]) -> Eight
-    ensures { rows_in result ≡ rows_read t }
+#[tactic(auto, unfolding(table::specs::Words::list_from))]
+fn rows_of(words: &[u32; 96]) -> [Row; 8]
+    ensures { result ≡ rows_read words.now }
 {
-    Eight {
-        r0: get(t, 0),
-        r1: get(t, 1),
-        r2: get(t, 2),
-        r3: get(t, 3),
-        r4: get(t, 4),
-        r5: get(t, 5),
-        r6: get(t, 6),
-        r7: get(t, 7),
-    }
+    std::array::from_fn(|i| table::row_at(words, i as u32))
 }
 
 // 1 "table not eight rows"
-fn refused(control: Control, rows: Eight) -> Done
-    ensures { result ≡ turned_down control rows }
+fn refused(control: Control) -> Reply
+    ensures { result ≡ turned_down control }
 {
-    let reply = Reply {
+    Reply {
         control,
         answer: Answer::Refused(1),
+    }
+}
+
+// The call on the words of the rows, which are then read back. `call` is lent: so it is known what it leaves in the arena and the answers.
+fn on_words<F: FnMut(&mut [u32; 96]) -> Reply>(
+    control: Control,
+    rows: Option<[Row; 8]>,
+    call: &mut F,
+) -> Done
+    requires { F.IsAlwaysCallable call.old }
+    ensures { OnWords F.FnMut control rows call.old result call.new }
+{
+    let Some(rows) = rows else {
+        return Done {
+            reply: refused(control),
+            rows: None,
+        };
     };
+    let mut words = words_of(&rows);
+    let reply = call(&mut words);
+    let rows = Some(rows_of(&words));
     Done { reply, rows }
 }
 
-// Fresh, on the rows of a table that has n of them.
-pub fn fresh_rows(control: Control, arena: &mut [u32], n: usize, rows: Eight) -> Done
-    ensures { DoesRows n rows result arena.new
-        (fresh_call (state control arena.old (table_of n rows))) }
+// Fresh, on the rows of a table.
+pub fn fresh_rows(control: Control, arena: &mut [u32], rows: Option<[Row; 8]>) -> Done
+    ensures { DoesRows rows result arena.new (λ t. fresh_call (state control arena.old t)) }
 {
-    if n != 8 {
-        return refused(control, rows);
-    }
-    let mut words = words_of(rows);
-    let reply = archive::fresh(control, arena, &mut words);
-    let next = rows_of(words);
-    Done { reply, rows: next }
+    on_words(
+        control,
+        rows,
+        &mut |words| archive::fresh(control, arena, words),
+    )
 }
 
-// One step, on the rows of a table that has n of them.
+// One step, on the rows of a table.
 pub fn step_rows(
     control: Control,
     arena: &mut [u32],
-    n: usize,
-    rows: Eight,
+    rows: Option<[Row; 8]>,
     who: u32,
     code: u32,
     a: u32,
     b: u32,
     v: u32,
 ) -> Done
-    ensures { DoesRows n rows result arena.new
-        (step_call (state control arena.old (table_of n rows)) (step who code a b v)) }
+    ensures { DoesRows rows result arena.new
+        (λ t. step_call (state control arena.old t) (step who code a b v)) }
 {
-    if n != 8 {
-        return refused(control, rows);
-    }
-    let mut words = words_of(rows);
-    let reply = archive::step(control, arena, &mut words, who, code, a, b, v);
-    let next = rows_of(words);
-    Done { reply, rows: next }
+    on_words(
+        control,
+        rows,
+        &mut |words| archive::step(control, arena, words, who, code, a, b, v),
+    )
 }
 
-// A run, on the rows of a table that has n of them.
+// A run, on the rows of a table.
 pub fn run_rows(
     control: Control,
     arena: &mut [u32],
-    n: usize,
-    rows: Eight,
+    rows: Option<[Row; 8]>,
     steps: &[u32],
     answers: &mut [u32],
 ) -> Done
-    ensures { RunsRows n rows result arena.new answers.new
-        (run_call (state control arena.old (table_of n rows)) steps.now answers.old) }
+    ensures { RunsRows rows result arena.new answers.new
+        (λ t. run_call (state control arena.old t) steps.now answers.old) }
 {
-    if n != 8 {
-        return refused(control, rows);
-    }
-    let mut words = words_of(rows);
-    let reply = archive::run(control, arena, &mut words, steps, answers);
-    let next = rows_of(words);
-    Done { reply, rows: next }
+    on_words(
+        control,
+        rows,
+        &mut |words| archive::run(control, arena, words, steps, answers),
+    )
 }
 
-// Fill, on the rows of a table that has n of them.
-pub fn fill_rows(control: Control, arena: &[u32], n: usize, rows: Eight) -> Reply
-    ensures { Looks result (fill_call (state control arena.now (table_of n rows))) }
+// Fill, on the rows of a table.
+pub fn fill_rows(control: Control, arena: &[u32], rows: Option<[Row; 8]>) -> Reply
+    ensures { LooksRows rows result (λ t. fill_call (state control arena.now t)) }
 {
-    if n != 8 {
-        let o = refused(control, rows);
-        return o.reply;
-    }
-    let words = words_of(rows);
-    archive::fill(control, arena, &words)
+    let Some(rows) = rows else {
+        return refused(control);
+    };
+    archive::fill(control, arena, &words_of(&rows))
 }
 
-// The audit, on the rows of a table that has n of them.
-pub fn audit_rows(control: Control, arena: &[u32], n: usize, rows: Eight) -> Reply
-    ensures { Looks result (audit_call (state control arena.now (table_of n rows))) }
+// The audit, on the rows of a table.
+pub fn audit_rows(control: Control, arena: &[u32], rows: Option<[Row; 8]>) -> Reply
+    ensures { LooksRows rows result (λ t. audit_call (state control arena.now t)) }
 {
-    if n != 8 {
-        let o = refused(control, rows);
-        return o.reply;
-    }
-    let words = words_of(rows);
-    archive::audit(control, arena, &words)
+    let Some(rows) = rows else {
+        return refused(control);
+    };
+    archive::audit(control, arena, &words_of(&rows))
 }

@@ -5,8 +5,7 @@
 ghost use Rattle.std.specs.Prelude.{◌≡◌};
 ghost use Rattle.model.specs.State.{state};
 ghost use Rattle.model.specs.Steps.{step, fresh_call, step_call, run_call, fill_call, audit_call};
-ghost use Rattle.rows.specs.Eight.{put_back};
-ghost use Rattle.byrow.specs.Does.{Does, Runs, Looks};
+ghost use Rattle.byrow.specs.Does.{Does, Runs, Looks, table_left};
 
 use archive::Reply;
 use byrow::Done;
@@ -14,10 +13,12 @@ use model::{Control, Row};
 
 // The rows of a call that is done go back into the table; its reply is left.
 fn put_back(table: &mut [Row], done: Done) -> Reply
-    ensures { (result ≡ done.reply) × (table.new ≡ put_back table.old done.rows) }
+    ensures reply { result ≡ done.reply }
+    ensures table { table.new ≡ table_left table.old done.rows }
 {
-    let rows = done.rows;
-    rows::put_rows(table, rows);
+    if let Some(rows) = done.rows {
+        rows::put_rows(table, rows);
+    }
     done.reply
 }
 
@@ -26,8 +27,7 @@ pub fn fresh(control: Control, arena: &mut [u32], table: &mut [Row]) -> Reply
     ensures { Does result arena.new table.new
         (fresh_call (state control arena.old table.old)) }
 {
-    let rows = rows::take_rows(&*table);
-    let done = byrow::fresh_rows(control, arena, table.len(), rows);
+    let done = byrow::fresh_rows(control, arena, rows::take_rows(table));
     put_back(table, done)
 }
 
@@ -45,8 +45,7 @@ pub fn step(
     ensures { Does result arena.new table.new
         (step_call (state control arena.old table.old) (step who code a b v)) }
 {
-    let rows = rows::take_rows(&*table);
-    let done = byrow::step_rows(control, arena, table.len(), rows, who, code, a, b, v);
+    let done = byrow::step_rows(control, arena, rows::take_rows(table), who, code, a, b, v);
     put_back(table, done)
 }
 
@@ -62,8 +61,7 @@ pub fn run(
     ensures { Runs result arena.new table.new answers.new
         (run_call (state control arena.old table.old) steps.now answers.old) }
 {
-    let rows = rows::take_rows(&*table);
-    let done = byrow::run_rows(control, arena, table.len(), rows, steps, answers);
+    let done = byrow::run_rows(control, arena, rows::take_rows(table), steps, answers);
     put_back(table, done)
 }
 
@@ -71,14 +69,12 @@ pub fn run(
 pub fn fill(control: Control, arena: &[u32], table: &[Row]) -> Reply
     ensures { Looks result (fill_call (state control arena.now table.now)) }
 {
-    let rows = rows::take_rows(table);
-    byrow::fill_rows(control, arena, table.len(), rows)
+    byrow::fill_rows(control, arena, rows::take_rows(table))
 }
 
 // "Audit's value, beside answer 30, is 0 or the number of the first broken rule."
 pub fn audit(control: Control, arena: &[u32], table: &[Row]) -> Reply
     ensures { Looks result (audit_call (state control arena.now table.now)) }
 {
-    let rows = rows::take_rows(table);
-    byrow::audit_rows(control, arena, table.len(), rows)
+    byrow::audit_rows(control, arena, rows::take_rows(table))
 }

