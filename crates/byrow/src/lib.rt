@@ -12,7 +12,7 @@ ghost use Rattle.byrow.specs.Does.{DoesRows, RunsRows, LooksRows};
 ghost use Rattle.byrow.specs.OnWords.{OnWords, turned_down};
 
 use archive::Reply;
-use model::{Answer, Control, Row};
+use model::{Control, Reason, Row};
 
 // What a call leaves: the reply, and the rows.
 #[derive(Clone, Copy)]
@@ -55,7 +55,7 @@ fn refused(control: Control) -> Reply
 {
     Reply {
         control,
-        answer: Answer::Refused(1),
+        answer: Reason::WrongSizes.into(),
     }
 }
 
@@ -91,7 +91,7 @@ pub fn fresh_rows(control: Control, arena: &mut [u32], rows: Option<[Row; 8]>) -
     )
 }
 
-// One step, on the rows of a table.
+// One step, on the rows of a table. Its five numbers stand apart, as in the library's calls on both sides of it.
 pub fn step_rows(
     control: Control,
     arena: &mut [u32],
