@@ -1,6 +1,5 @@
 -- What blocks cover, as the walk over the directory adds it up: one block over one cell, and the sum over the first entries.
-use mathlib.Core.Path.{◌≡◌, refl, sym, ◌∙◌}
-use mathlib.Core.Logic.{◌⊎◌, inl, inr, ⊎_elim}
+use mathlib.Core.Path.{◌≡◌, refl, sym}
 use mathlib.Core.List.{List, [], ◌∷◌}
 use Prim.Native.Nat.{ℕ, zero, suc, ◌+◌, ◌≤◌, ◌<◌}
 use native.Mathlib.Omega.{arith}
@@ -10,16 +9,8 @@ use borrow.Author.Tests.{eqb-true, not-false}
 use Rattle.model.specs.Choice.{total}
 use Rattle.model.specs.Arena.{none, cells_at}
 use Rattle.model.specs.Rules.{is_cell, covers, record_covers}
-use Rattle.model.proofs.Choice.{order, by_test}
-use Rattle.model.proofs.Covers.{covers_in, covers_out}
-
--- a number that is 1 in the block and 0 outside it
-pub covers_by : (c n x : ℕ) {b : ℕ} → (c ≤ x → x < c + n → b ≡ 1) → ((x < c) ⊎ (c + n ≤ x) → b ≡ 0) → b ≡ covers c n x
-covers_by c n x {b} i o =
-    ⊎_elim (λ p. o (inl p) ∙ sym (covers_out c n x (λ q r. omega arith)))
-    (λ p.
-    ⊎_elim (λ q. i p q ∙ sym (covers_in c n x p q)) (λ q. o (inr q) ∙ sym (covers_out c n x (λ r s. omega arith))) (order x (c + n)))
-    (order x c)
+use Rattle.model.proofs.Choice.{by_test}
+use Rattle.model.proofs.Covers.{covers_out}
 
 -- among the arena's cells an absent entry covers none, as a block that starts at 65535 does
 pub record_covers_lem : (arena : List ℕ) (x c : ℕ) → x < 1024 → record_covers arena x c ≡ covers c (cells_at arena c) x

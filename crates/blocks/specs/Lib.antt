@@ -1,1 +1,1 @@
-pub mod Lay
+pub mod Other

@@ -1,17 +1,17 @@
-// R3 decided: the map of the records' blocks is built by masks, two words a block, and compared with the map by words.
+// R3 decided: the records' blocks are laid into an empty map, which is then compared with the map by words.
 // Total over any contents; knows nothing of clients, and nothing of the other rules.
 #![tactic(auto)]
 
-ghost use Rattle.std.specs.Prelude.{◌≡◌, ◌<◌, length};
-ghost use Rattle.model.specs.Arena.{cells_at, put_run, IsMap};
+ghost use Rattle.std.specs.Prelude.{◌≡◌, ◌<◌};
+ghost use Rattle.model.specs.Arena.{cells_at, free_cells, put_run};
 ghost use Rattle.model.specs.State.{stage_of};
 ghost use Rattle.model.specs.Rules.{early, late, R3};
-ghost use Rattle.model.specs.Choice.{every};
-ghost use Rattle.blocks.specs.Lay.{lay_word, free_word, free, same_word, other_block};
+ghost use Rattle.blocks.specs.Other.{other_block};
+
+use cells::Cell;
+use model::{Move, Stage};
 
 const CELLS: u32 = 1024;
-
-const METERS: u32 = 256;
 
 // The start and the cells of a block.
 #[derive(Clone, Copy)]
@@ -24,111 +24,71 @@ pub struct Block {
 pub fn is_early(stage: u32) -> bool
     ensures { result ≡ early (stage_of stage) }
 {
-    if stage == 0 {
-        return false;
-    }
-    stage < 4
+    matches!(
+        Stage::from(stage),
+        Stage::FirstBarrier | Stage::Copying | Stage::SecondBarrier
+    )
 }
 
 pub fn is_late(stage: u32) -> bool
     ensures { result ≡ late (stage_of stage) }
 {
-    stage == 4
+    Stage::from(stage) == Stage::ThirdBarrier
 }
 
-// A mask is laid into word w; whether it met no cell that was there.
-fn lay_word(seen: &mut [u64; 16], w: u32, mask: u64) -> bool
-    requires { length seen.old ≡ 16 }
-    ensures free { result ≡ free_word seen.old w mask }
-    ensures laid { seen.new ≡ lay_word seen.old w mask }
+// A block's cells are laid into the map; whether all were free.
+fn lay_block(seen: &mut [u64; 16], block: Block) -> bool
+    requires { block.cells < 64 }
+    ensures free { result ≡ free_cells seen.old block.start block.cells }
+    ensures laid { seen.new ≡ put_run seen.old block.start block.cells 1 }
 {
-    if 15 < w {
-        return true;
-    }
-    let at = w as usize;
-    let old = seen[at];
-    seen[at] = old | mask;
-    old & mask == 0
+    let free = cells::is_free(seen, block.start, block.cells);
+    cells::put_run(seen, block.start, block.cells, Cell::Used);
+    free
 }
 
-// The n cells from c on are laid into the map; whether none was there.
-fn lay_block(seen: &mut [u64; 16], c: u32, n: u32) -> bool
-    requires { (n < 64) × IsMap seen.old }
-    ensures free { result ≡ free seen.old c n }
-    ensures laid { seen.new ≡ put_run seen.old c n 1 }
-{
-    if CELLS <= c {
-        return true;
-    }
-    let low = lay_word(seen, c / 64, cells::low_mask(c % 64, n));
-    let high = lay_word(seen, c / 64 + 1, cells::high_mask(c % 64, n));
-    low && high
-}
-
-// The block of the record at cell c is laid; whether none of its cells was there.
+// The block of the record at cell c is laid; whether all its cells were free. An absent entry is no cell, and lays none.
 fn lay_record(seen: &mut [u64; 16], arena: &[u32], c: u32) -> bool
-    requires { IsMap seen.old }
-    ensures free { result ≡ free seen.old c (cells_at arena.now c) }
+    ensures free { result ≡ free_cells seen.old c (cells_at arena.now c) }
     ensures laid { seen.new ≡ put_run seen.old c (cells_at arena.now c) 1 }
 {
     if CELLS <= c {
         return true;
     }
-    let l = record::lengths_at(arena, c);
-    lay_block(seen, c, l.cells)
-}
-
-// Whether two maps have the same sixteen words.
-fn same_words(m: &[u64; 16], n: &[u64; 16]) -> bool
-    ensures { result ≡ every 16 (same_word m.now n.now) }
-{
-    let mut i: usize = 0;
-    while i < 16 {
-        if m[i] != n[i] {
-            return false;
-        }
-        i += 1;
-    }
-    true
+    let cells = record::lengths_at(arena, c).cells;
+    lay_block(seen, Block { start: c, cells })
 }
 
 // "the move's other block": the target in the first three stages, the old one in the third barrier.
-fn other_block(mv: model::Move, arena: &[u32]) -> Block
+fn other_block(mv: Move, arena: &[u32]) -> Option<Block>
     ensures { result ≡ other_block (stage_of mv.stage) mv arena.now }
 {
-    let from = mv.from as u32;
-    let l = record::lengths_at(arena, from);
-    if is_early(mv.stage) {
-        return Block {
+    let cells = record::lengths_at(arena, mv.from as u32).cells;
+    match Stage::from(mv.stage) {
+        Stage::NoMove => None,
+        Stage::FirstBarrier | Stage::Copying | Stage::SecondBarrier => Some(Block {
             start: mv.target as u32,
-            cells: l.cells,
-        };
+            cells,
+        }),
+        Stage::ThirdBarrier => Some(Block {
+            start: mv.from as u32,
+            cells,
+        }),
     }
-    if is_late(mv.stage) {
-        return Block {
-            start: from,
-            cells: l.cells,
-        };
-    }
-    Block { start: 0, cells: 0 }
 }
 
 // R3 "Used cells are exactly those of present records and of the move's other block; none lies in two."
-pub fn cells_right(dir: &[u16; 256], map: &[u64; 16], mv: model::Move, arena: &[u32]) -> bool
-    requires { (length dir.now ≡ 256) × IsMap map.now }
+pub fn cells_right(dir: &[u16; 256], map: &[u64; 16], mv: Move, arena: &[u32]) -> bool
     ensures { result ≡ R3 dir.now map.now mv arena.now }
 {
-    let mut seen: [u64; 16] = [0; 16];
-    let mut m: u32 = 0;
-    while m < METERS {
-        if !lay_record(&mut seen, arena, directory::entry_of(dir, m) as u32) {
+    let mut seen = [0; 16];
+    for &c in dir {
+        if !lay_record(&mut seen, arena, c as u32) {
             return false;
         }
-        m += 1;
     }
-    let other = other_block(mv, arena);
-    if !lay_block(&mut seen, other.start, other.cells) {
-        return false;
+    match other_block(mv, arena) {
+        Some(block) => lay_block(&mut seen, block) && seen == *map,
+        None => seen == *map,
     }
-    same_words(&seen, map)
 }

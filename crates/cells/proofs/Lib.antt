@@ -1,3 +1,4 @@
+pub mod Free
 pub mod Masks
 pub mod Runs
 pub mod Search

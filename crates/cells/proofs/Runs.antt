@@ -5,7 +5,7 @@ use mathlib.Core.Logic.{◌⊎◌, inl, inr, ⊎_elim}
 use Prim.Native.Nat.{ℕ, ◌+◌, ◌/◌, ◌%◌, ◌^◌, ◌≤◌, ◌<◌}
 use native.Mathlib.Omega.{arith}
 use lib.ListN.{get_or}
-use lib.Seq.{get_or-set_same, get_or-set_other, set_out}
+use lib.Seq.{get_or-set_same, get_or-set_other}
 use Rattle.model.specs.Arena.{bit, used, put_run, IsMap}
 use Rattle.model.proofs.Choice.{order, same_or_not}
 use Rattle.model.proofs.CellMap.{set_map, run_map, used_run, used_run_other, map_ext}
@@ -99,10 +99,3 @@ run_by_masks m c n to h k =
 
     outside : (x : ℕ) → x < 1024 → (x < c) ⊎ (c + n ≤ x) → used (put_run m c n (bit_of to)) x ≡ used (both_put m c n to) x
     outside x hx o = used_run_other m c n (bit_of to) x (bit_lt_two to) o ∙ sym (both_out m c n x to h k hx o)
-
--- where the run starts past the map nothing is put
-pub run_past_map : (m : List ℕ) (c n : ℕ) (to : Cell) → IsMap m → n < 64 → 1024 ≤ c → put_run m c n (bit_of to) ≡ m
-run_past_map m c n to h k p =
-    let low : low_put m c n to ≡ m = set_out m (c / 64) (masked (get_or m (c / 64) 0) (low_mask (c % 64) n) to) (omega (arith, h.sixteen)) in
-    run_by_masks m c n to h k ∙ ap (λ (l : List ℕ). word_put l (c / 64 + 1) (high_mask (c % 64) n) to) low
-    ∙ set_out m (c / 64 + 1) (masked (get_or m (c / 64 + 1) 0) (high_mask (c % 64) n) to) (omega (arith, h.sixteen))

@@ -1,5 +1,5 @@
 -- What the helpers of the map compute on one word, and what a search among the words finds.
-use Rattle.std.specs.Prelude.{◌≡◌, List, ℕ, ◌-◌, ◌*◌, ◌/◌, ◌%◌, ◌^◌, ◌≤◌, ◌<◌, get_or, set, Option, None, Some, if◌then◌else◌, ◌==◌}
+use Rattle.std.specs.Prelude.{◌≡◌, Bool, eqb, List, ℕ, ◌-◌, ◌*◌, ◌/◌, ◌%◌, ◌^◌, ◌≤◌, ◌<◌, get_or, set, Option, None, Some, if◌then◌else◌, ◌==◌}
 use Rattle.std.specs.Int.Bits.{bit_and, bit_or}
 use Rattle.cells.specs.declared.Cell.{Cell}
 use Rattle.cells.specs.declared.Cell.TheVariants.{Free, Used}
@@ -25,6 +25,10 @@ masked w mask Free = bit_and w ((2 ^ 64 - 1) - mask)
 -- a mask put into word w of the map
 abbrev pub word_put : List ℕ → ℕ → ℕ → Cell → List ℕ
 word_put m w mask to = set m w (masked (get_or m w 0) mask to)
+
+-- no one of a mask lies in word w of the map
+abbrev pub free_word : List ℕ → ℕ → ℕ → Bool
+free_word m w mask = eqb (bit_and (get_or m w 0) mask) 0
 
 -- the word whose ones are the used cells, or the free ones
 abbrev pub sought : ℕ → Cell → ℕ

@@ -1,10 +1,10 @@
-// The free map, "one bit per cell, set when used": cell c is bit c % 64 of word c / 64. Put, count, search.
+// The free map, "one bit per cell, set when used": cell c is bit c % 64 of word c / 64. Put, asked, counted, searched.
 // Knows nothing of records: what lies outside the 1,024 cells is free and stays so.
 #![tactic(auto)]
 
 ghost use Rattle.std.specs.Prelude.{◌≡◌, ◌<◌, ◌≤◌};
-ghost use Rattle.model.specs.Arena.{put_run, fill, lowest_run};
-ghost use Rattle.cells.specs.Words.{low_mask, high_mask, bit_of, masked, word_put, sought, NextCell, found};
+ghost use Rattle.model.specs.Arena.{put_run, free_cells, fill, lowest_run};
+ghost use Rattle.cells.specs.Words.{low_mask, high_mask, bit_of, masked, word_put, free_word, sought, NextCell, found};
 
 const CELLS: u32 = 1024;
 
@@ -18,7 +18,7 @@ pub enum Cell {
 }
 
 // n ones from bit k on: those of the word itself.
-pub fn low_mask(k: u32, n: u32) -> u64
+fn low_mask(k: u32, n: u32) -> u64
     requires { (k < 64) × (n < 64) }
     ensures { result ≡ low_mask k n }
 {
@@ -26,7 +26,7 @@ pub fn low_mask(k: u32, n: u32) -> u64
 }
 
 // Those that run over into the next word.
-pub fn high_mask(k: u32, n: u32) -> u64
+fn high_mask(k: u32, n: u32) -> u64
     requires { (k < 64) × (n < 64) }
     ensures { result ≡ high_mask k n }
 {
@@ -60,6 +60,22 @@ pub fn put_run(map: &mut [u64; 16], c: u32, n: u32, to: Cell)
     let w = (c / 64) as usize;
     put_word(map, w, low_mask(c % 64, n), to);
     put_word(map, w + 1, high_mask(c % 64, n), to);
+}
+
+// No cell of the mask is used in word w; past the map's end none is.
+fn is_free_word(map: &[u64; 16], w: usize, mask: u64) -> bool
+    ensures { result ≡ free_word map.now w mask }
+{
+    map.get(w).copied().unwrap_or(0) & mask == 0
+}
+
+// The n cells from c on are free.
+pub fn is_free(map: &[u64; 16], c: u32, n: u32) -> bool
+    requires { n < 64 }
+    ensures { result ≡ free_cells map.now c n }
+{
+    let w = (c / 64) as usize;
+    is_free_word(map, w, low_mask(c % 64, n)) && is_free_word(map, w + 1, high_mask(c % 64, n))
 }
 
 // "Fill is the number of used cells, by counting the map's ones."

@@ -128,14 +128,15 @@ free_step m c n = by (eqb (used m c) 0)
     by true = refl
     by false = refl
 
-free_cells_lem : (m : List ℕ) (c n : ℕ) → free_cells m c n ≡ true → (x : ℕ) → c ≤ x → x < c + n → used m x ≡ 0
+-- what the test of n cells says, and what it asks
+pub free_cells_lem : (m : List ℕ) (c n : ℕ) → free_cells m c n ≡ true → (x : ℕ) → c ≤ x → x < c + n → used m x ≡ 0
 free_cells_lem m c zero e x p q = absurd (omega arith)
 free_cells_lem m c (suc n) e x p q =
     let b = and_parts (eqb (used m c) 0) (free_cells m (suc c) n) (sym (free_step m c n) ∙ e) in
     ⊎_elim (λ (z : x ≡ c). ap (used m) z ∙ eqb-true (used m c) 0 b.0)
     (λ (z : x ≡ c → ⊥). free_cells_lem m (suc c) n b.1 x (omega arith) (omega arith)) (same_or_not x c)
 
-cells_free : (m : List ℕ) (c n : ℕ) → ((x : ℕ) → c ≤ x → x < c + n → used m x ≡ 0) → free_cells m c n ≡ true
+pub cells_free : (m : List ℕ) (c n : ℕ) → ((x : ℕ) → c ≤ x → x < c + n → used m x ≡ 0) → free_cells m c n ≡ true
 unfolding free_cells
 cells_free m c zero h = refl
 cells_free m c (suc n) h =

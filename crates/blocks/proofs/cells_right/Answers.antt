@@ -1,41 +1,54 @@
 -- `blocks::cells_right` meets its contract. The invariant: the map built has at each cell the sum of the blocks of the entries passed.
-use Rattle.std.proofs.Common.{sym, arith}
-use Rattle.blocks.proofs.Seen.{seen_none, turn_on_lem, turn_stops, end_stops, end_same, end_small}
+use Rattle.std.proofs.Common.{sym, ◌∙◌, arith, ℕ, ◌<◌, length}
+use Rattle.std.proofs.lemmas.List.{get_or_default}
+use Rattle.model.specs.Arena.{IsMap, none}
+use Rattle.model.specs.State.{stage_of}
+use Rattle.blocks.proofs.Seen.{seen_none, seen_more, seen_stops, other_small, end_none, end_same, end_stops}
 use Rattle.blocks.proofs.cells_right.Goals as goal
 
-pub loop-m-init : goal.loop-m-init
-loop-m-init c = (seen_none _ _, omega arith)
+pub loop-c-init : goal.loop-c-init
+loop-c-init c = seen_none _ _
 
 pub returns-then-not-lay_record : goal.returns-then-not-lay_record
 returns-then-not-lay_record c =
-    let args = c.args in
-    sym (turn_stops _ args.map.now args.mv _ c.loop-m.seen c.loop-m.m c.requires.0 c.loop-m.invariant.0
-    (omega arith) c.entry_of.ensures c.lay_record.ensures.free c.if-not-lay_record.true)
+    let a = c.args in
+    let i : ℕ = c.loop-c.c-index in
+    let h : i < length a.dir.now = omega arith in
+    sym (seen_stops a.dir.now a.map.now a.mv a.arena.now c.loop-c.seen i _ h (get_or_default a.dir.now i 0 none h)
+    c.loop-c.invariant (sym c.lay_record.ensures.free ∙ c.if-not-lay_record.true))
 
-pub loop-m-preserved : goal.loop-m-preserved
-loop-m-preserved c =
-    let args = c.args in (
-      turn_on_lem _ args.map.now args.mv _ c.loop-m.seen c.loop-m.m c.requires.0 c.loop-m.invariant.0
-          (omega arith) c.entry_of.ensures c.lay_record.ensures.free c.lay_record.ensures.laid
-          c.if-not-lay_record.false,
-      omega arith,
-    )
+pub loop-c-preserved : goal.loop-c-preserved
+loop-c-preserved c =
+    let a = c.args in
+    let i : ℕ = c.loop-c.c-index in
+    let h : i < length a.dir.now = omega arith in
+    rw c.lay_record.ensures.laid
+    (seen_more a.dir.now a.map.now a.mv a.arena.now c.loop-c.seen i _ h (get_or_default a.dir.now i 0 none h)
+    c.loop-c.invariant (sym c.lay_record.ensures.free ∙ c.if-not-lay_record.false))
 
 pub lay_block-requires : goal.lay_block-requires
-lay_block-requires c =
-    let args = c.args in
-    (end_small args.mv args.arena.now c.other_block-other.ensures, c.loop-m.invariant.0.map)
+lay_block-requires c = rw (← c.in-Some.ensures) at (other_small c.args.mv c.args.arena.now (stage_of c.args.mv.stage))
 
-pub returns-then-not-lay_block : goal.returns-then-not-lay_block
-returns-then-not-lay_block c =
-    let loop = c.loop-m in
-    sym (end_stops _ c.args.map.now c.args.mv _ loop.seen c.requires.0 loop.invariant.0 (omega arith)
-    c.other_block-other.ensures c.lay_block.ensures.free c.if-not-lay_block.true)
+pub returns-then-lay_block : goal.returns-then-lay_block
+returns-then-lay_block c =
+    let a = c.args in
+    let hm : IsMap a.map.now = record { sixteen = c.told-map; words = c.fits-map } in
+    c.eq.ensures
+    ∙ rw c.lay_block.ensures.laid
+    (end_same a.dir.now a.map.now a.mv a.arena.now c.loop-c.seen c.loop-c.c-index hm (omega arith) c.loop-c.invariant c.in-Some.block
+    c.in-Some.ensures (sym c.lay_block.ensures.free ∙ c.if-lay_block.true))
 
-pub returns : goal.returns
-returns c =
-    let args = c.args in
-    let pre = c.requires in
-    end_same _ args.map.now args.mv _ c.loop-m.seen pre.0 c.loop-m.invariant.0 (omega arith)
-    c.other_block-other.ensures c.lay_block.ensures.free pre.1 c.lay_block.ensures.laid
-    c.if-not-lay_block.false c.same_words.ensures
+pub returns-else-lay_block : goal.returns-else-lay_block
+returns-else-lay_block c =
+    let a = c.args in
+    let hm : IsMap a.map.now = record { sixteen = c.told-map; words = c.fits-map } in
+    c.if-lay_block.false
+    ∙ sym (end_stops a.dir.now a.map.now a.mv a.arena.now c.loop-c.seen c.loop-c.c-index hm (omega arith) c.loop-c.invariant c.in-Some.block
+    c.in-Some.ensures (sym c.lay_block.ensures.free ∙ c.if-lay_block.false))
+
+pub returns-in-None : goal.returns-in-None
+returns-in-None c =
+    let a = c.args in
+    let hm : IsMap a.map.now = record { sixteen = c.told-map; words = c.fits-map } in
+    c.eq-in-None.ensures
+    ∙ end_none a.dir.now a.map.now a.mv a.arena.now c.loop-c.seen c.loop-c.c-index hm (omega arith) c.loop-c.invariant c.in-None.ensures
