@@ -1,5 +1,5 @@
 -- What is printed: a script's two sections and its totals, the definition's text, and room for all of it. Assumes nothing.
-use mathlib.Core.Path.{◌≡◌, sym, ap, ◌∙◌}
+use mathlib.Core.Path.{◌≡◌, sym, subst, ap, ◌∙◌}
 use mathlib.Core.Bool.{true, false}
 use mathlib.Core.Logic.{⊎_elim}
 use mathlib.Core.List.{List, [], ◌∷◌}
@@ -24,11 +24,12 @@ use Rattle.table.specs.Words.{table_words, rows_read}
 use Rattle.table.proofs.FourHolds.{four_of_all}
 use Rattle.table.proofs.Rows.{rows_read_lem}
 use Rattle.archive.specs.Does.{meant}
-use Rattle.script.specs.declared.Parsed.TheVariants.{Bad, Script}
+use Rattle.std.specs.Prelude.{Ok, Err}
+use Rattle.script.specs.declared.Script.{Script}
+use Rattle.script.specs.declared.BadFile.{BadFile}
 use Rattle.script.specs.Lines.{parse, numbers_at}
 use Rattle.script.specs.Printing.{Page, page, put, written, line1, bad_file, too_long}
-use Rattle.script.specs.Replay.{admissions_from, answer_lines, five_totals, total_lines, printed, admissions_run, steps_run, replay_text}
-use Rattle.script.proofs.Accepted.{not_script}
+use Rattle.script.specs.Replay.{admissions_from, answer_lines, five_totals, total_lines, printed, first_run, second_run, admissions_run, steps_run, replay_text}
 use Rattle.script.proofs.Pages.{put_room, put_full, written_append}
 use Rattle.script.proofs.Replay.{replay_too_long, replay_bad, replay_script}
 use Rattle.script.specs.Sizes.{Totals, Sized}
@@ -74,20 +75,32 @@ unfolding printed
 printed_written p m k first then = simp written_append
 
 -- a script's two runs
-module _ (s : List ℕ) (m at k start : ℕ) where
+module _ (s : List ℕ) (k : Script) where
+  abbrev m : ℕ
+  m = k.admissions.count
+
+  abbrev at : ℕ
+  at = k.admissions.start
+
+  abbrev n : ℕ
+  n = k.steps.count
+
+  abbrev start : ℕ
+  start = k.steps.start
+
   abbrev first : Ran
-  first = admissions_run s m at
+  first = first_run s k
 
   abbrev then : Ran
-  then = steps_run s k start first
+  then = second_run s k
 
   first_is : section_run fresh true s at m ≡ first
   unfolding admissions_run
   first_is = ap (one_by_one act fresh) (admissions_are (numbers_at s (2 * m) at) 0 m)
 
-  then_is : section_run first.next false s start k ≡ then
+  then_is : section_run first.next false s start n ≡ then
   unfolding steps_run
-  then_is = ap (one_by_one act first.next) (steps_are (numbers_at s (5 * k) start) 0 k)
+  then_is = ap (one_by_one act first.next) (steps_are (numbers_at s (5 * n) start) 0 n)
 
   first_reach : Reach first.next
   unfolding admissions_run
@@ -95,19 +108,19 @@ module _ (s : List ℕ) (m at k start : ℕ) where
 
   then_reach : Reach then.next
   unfolding steps_run
-  then_reach = rw first_reach.is (run_reaches first_reach.steps (steps_from (numbers_at s (5 * k) start) 0 k))
+  then_reach = rw first_reach.is (run_reaches first_reach.steps (steps_from (numbers_at s (5 * n) start) 0 n))
 
   pub performs : {c : Control} {a t a1 t1 a2 t2 before out1 out2 out : List ℕ} {r1 r2 : Played} {r : ℕ} → Holds fresh c a t
       → Plays (written (page before 0) (line1 m)) (section_run (meant c a t) true s at m) r1 a1 t1 out1
-      → Plays (written (page out1 r1.at) (line1 k)) (section_run (meant r1.control a1 t1) false s start k) r2 a2 t2 out2
+      → Plays (written (page out1 r1.at) (line1 n)) (section_run (meant r1.control a1 t1) false s start n) r2 a2 t2 out2
       → page out r ≡ written (page out2 r2.at) (five_totals r2.control.begun r2.control.committed r2.control.aborted
       (total swaps_of (rows_read t2)) (fill r2.control.map))
-      → Performs s m at k start before out r
+      → Performs s k before out r
   performs {c} {a} {t} {a1} {t1} {a2} {t2} {before} {out1} {out2} {out} {r1} {r2} {r} H P Q e =
       let P' : Plays (written (page before 0) (line1 m)) first r1 a1 t1 out1 = rw (meant_by fresh_reach H, first_is) at P in
-      let Q' : Plays (written (page out1 r1.at) (line1 k)) then r2 a2 t2 out2 = rw (meant_by first_reach P'.holds, then_is) at Q in
+      let Q' : Plays (written (page out1 r1.at) (line1 n)) then r2 a2 t2 out2 = rw (meant_by first_reach P'.holds, then_is) at Q in
       record {
-        page = e ∙ rw (totals_are then_reach Q'.holds, Q'.page, P'.page, printed_written (page before 0) m k first then);
+        page = e ∙ rw (totals_are then_reach Q'.holds, Q'.page, P'.page, printed_written (page before 0) m n first then);
         sized = record { admitted = P'.short; stepped = Q'.short; totals = totals_reached then_reach };
       }
 
@@ -148,26 +161,17 @@ pub prints_too_long : (s before out : List ℕ) (r : ℕ) → 65536 < length s �
     → Prints before out r (replay_text s)
 prints_too_long s before out r h e = rw (replay_too_long s h) (prints_by before out r too_long e (omega arith))
 
-pub prints_bad : (s before out : List ℕ) (r : ℕ) {n : ℕ} → length s ≤ 65536 → parse s ≡ Bad n
-    → page out r ≡ written (page before 0) (bad_file n) → Prints before out r (replay_text s)
-prints_bad s before out r {n} h e f =
-    prints_by before out r (replay_text s) (f ∙ ap (written (page before 0)) (sym (replay_bad s n h e)))
-    (replay_short s (λ m at k start g. not_script (parse s) e g))
+pub prints_bad : (s before out : List ℕ) (r : ℕ) (d : BadFile) → length s ≤ 65536 → parse s ≡ Err d
+    → page out r ≡ written (page before 0) (bad_file d.line) → Prints before out r (replay_text s)
+prints_bad s before out r d h e f =
+    prints_by before out r (replay_text s) (f ∙ ap (written (page before 0)) (sym (replay_bad s d h e)))
+    (replay_short s (λ k g. let z : ◌≡◌ {A = ℕ} 0 1 = cc in absurd (omega arith)))
 
-sized_runs : (s : List ℕ) (m at k start : ℕ) → parse s ≡ Script m at k start
-    → Sized (admissions_run s m at) (steps_run s k start (admissions_run s m at)) → SizedRuns s
-sized_runs s m at k start e z m' at' k' start' f =
-    let p : m ≡ m' = cc in
-    let q : at ≡ at' = cc in
-    let u : k ≡ k' = cc in
-    let v : start ≡ start' = cc in
-    rw (p, q, u, v) at z
-
-pub prints_script : (s before out : List ℕ) (r : ℕ) {m at k start : ℕ} → length s ≤ 65536 → parse s ≡ Script m at k start
-    → Performs s m at k start before out r → Prints before out r (replay_text s)
-prints_script s before out r {m} {at} {k} {start} h e P =
-    prints_by before out r (replay_text s) (P.page ∙ ap (written (page before 0)) (sym (replay_script s m at k start h e)))
-    (replay_short s (sized_runs s m at k start e P.sized))
+pub prints_script : (s before out : List ℕ) (r : ℕ) (k : Script) → length s ≤ 65536 → parse s ≡ Ok k
+    → Performs s k before out r → Prints before out r (replay_text s)
+prints_script s before out r k h e P =
+    prints_by before out r (replay_text s) (P.page ∙ ap (written (page before 0)) (sym (replay_script s k h e)))
+    (replay_short s (λ j f. let same : k ≡ j = cc in subst (λ (x : Script). Sized (first_run s x) (second_run s x)) same P.sized))
 
 -- a text that is too long is known by one byte more than the most
 pub taken_text : (s : List ℕ) → replay_text (take 65537 s) ≡ replay_text s

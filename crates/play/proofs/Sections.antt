@@ -6,7 +6,7 @@ use mathlib.Core.Logic.{⊎_elim}
 use mathlib.Core.List.{List, [], ◌∷◌}
 use Prim.Native.Nat.{ℕ, zero, suc, ◌+◌, ◌-◌, ◌*◌, ◌≤◌}
 use native.Mathlib.Omega.{arith}
-use lib.ListN.{length, get_or, drop, replicate, length-replicate, get_or-eq_default}
+use lib.ListN.{length, get_or, take, drop, replicate, length-replicate, get_or-eq_default}
 use lib.Seq.{sets, sets-eq, get_or-append-add, get_or-drop}
 use Rattle.model.specs.declared.Control.{Control}
 use Rattle.model.specs.State.{State, fresh, outcome}
@@ -19,8 +19,8 @@ use Rattle.demands.specs.Log.{after}
 use Rattle.archive.specs.declared.Reply.{Reply}
 use Rattle.archive.specs.Does.{meant, words_after, CallDoes}
 use Rattle.table.proofs.Rows.{length_rows}
+use Rattle.std.specs.Prelude.{Option, Some, None}
 use Rattle.script.specs.declared.Found.{Found}
-use Rattle.script.specs.declared.Found.TheVariants.{Number, Nothing}
 use Rattle.script.specs.Numbers.{number_at}
 use Rattle.script.specs.Lines.{numbers_at}
 use Rattle.script.specs.Printing.{Page}
@@ -62,28 +62,32 @@ steps_laid_out n vs h false i (suc k) =
     )
 
 -- at most as many numbers as are asked for
-few_by : (s : List ℕ) (n at : ℕ) (x : Found) → number_at s at ≡ x → ((m : ℕ) → length (numbers_at s n m) ≤ n)
+few_by : (s : List ℕ) (n at : ℕ) (x : Option Found) → number_at s at ≡ x → ((m : ℕ) → length (numbers_at s n m) ≤ n)
     → length (numbers_at s (suc n) at) ≤ suc n
-few_by s n at Nothing e ih = rw (numbers_stop s at (suc n) (omega arith) e) (omega arith)
-few_by s n at (Number v next) e ih =
-    let z : suc n - 1 ≡ n = omega arith in
-    rw (numbers_go_on s at (suc n) v next (omega arith) e, z) (omega (arith, ih (next + 1)))
+few_by s n at None e ih = rw (numbers_stop s at n e) (omega arith)
+few_by s n at (Some x) e ih = rw (numbers_go_on s at n x e) (omega (arith, ih (x.end + 1)))
 
 few : (s : List ℕ) (n at : ℕ) → length (numbers_at s n at) ≤ n
-few s zero at = rw (numbers_none s at) (omega arith)
+few s zero at = rw (numbers_none s at 0 refl) (omega arith)
 few s (suc n) at = few_by s n at (number_at s at) refl (few s n)
+
+-- as many zeros as a section has numbers
+zeros_taken : (n room : ℕ) → n ≤ room → ◌≡◌ {A = List ℕ} (take n (replicate room 0)) (replicate n 0)
+zeros_taken zero room h = refl
+zeros_taken (suc n) zero h = absurd (omega arith)
+zeros_taken (suc n) (suc room) h = ap (λ (l : List ℕ). 0 ∷ l) (zeros_taken n room (omega arith))
 
 -- a section played from its words is played from its numbers
 pub section_plays : (s words : List ℕ) (admission : Bool) (count size start room : ℕ) (st : State) {p q : Page} {r : Played}
     {b u out : List ℕ} → per_line admission * count ≤ room → size ≡ per_line admission * count
-    → words ≡ sets (replicate room 0) 0 (numbers_at s size start) → p ≡ q
+    → words ≡ sets (take size (replicate room 0)) 0 (numbers_at s (length (take size (replicate {A = ℕ} room 0))) start) → p ≡ q
     → Plays p (run_in st admission words count) r b u out → Plays q (section_run st admission s start count) r b u out
 section_plays s words admission count size start room st {p} {q} {r} {b} {u} {out} h e f g P =
-    let vs : List ℕ = numbers_at s (per_line admission * count) start in
-    let w : words ≡ sets (replicate room 0) 0 vs = f ∙ ap (λ (n : ℕ). sets (replicate room 0) 0 (numbers_at s n start)) e in
-    let k : length vs ≤ room = omega (arith, few s (per_line admission * count) start) in
+    let n : ℕ = per_line admission * count in
+    let vs : List ℕ = numbers_at s n start in
+    let w : words ≡ sets (replicate n 0) 0 vs = f ∙ rw (e, zeros_taken n room h, length-replicate) in
     let l : steps_in admission words 0 count ≡ steps_in admission vs 0 count =
-    ap (λ (z : List ℕ). steps_in admission z 0 count) w ∙ steps_laid_out room vs k admission 0 count in
+    ap (λ (z : List ℕ). steps_in admission z 0 count) w ∙ steps_laid_out n vs (few s n start) admission 0 count in
     rw (g, l) at P
 
 -- the sections of the definition

@@ -8,7 +8,8 @@ use Rattle.table.specs.Words.{table_words}
 use Rattle.turns.specs.declared.Numbers.{Numbers}
 use Rattle.script.specs.Lines.{numbers_at}
 use Rattle.script.specs.Printing.{Page, page, written}
-use Rattle.script.specs.Replay.{admission_at, answer_lines, printed, admissions_run, steps_run}
+use Rattle.script.specs.declared.Script.{Script}
+use Rattle.script.specs.Replay.{admission_at, answer_lines, printed, first_run, second_run}
 -- for the program, which knows `play` alone
 pub use Rattle.script.specs.Replay.{replay_text}
 use Rattle.script.specs.Sizes.{Short, Sized}
@@ -61,9 +62,9 @@ pub record Plays (before : Page) (run : Ran) (r : Played) (a t out : List ℕ) :
   pub short : Short run.slots
 
 -- a script was performed: the page, and the sizes of what it has
-pub record Performs (s : List ℕ) (m at k start : ℕ) (before out : List ℕ) (r : ℕ) : Type 0 where
-  pub page : page out r ≡ written (page before 0) (printed m k (admissions_run s m at) (steps_run s k start (admissions_run s m at)))
-  pub sized : Sized (admissions_run s m at) (steps_run s k start (admissions_run s m at))
+pub record Performs (s : List ℕ) (k : Script) (before out : List ℕ) (r : ℕ) : Type 0 where
+  pub page : page out r ≡ written (page before 0) (printed k.admissions.count k.steps.count (first_run s k) (second_run s k))
+  pub sized : Sized (first_run s k) (second_run s k)
 
 -- a text is printed: all that the page has room for, in its first r bytes; 229,440 bytes have room for the whole of it
 pub record Prints (before out : List ℕ) (r : ℕ) (text : List ℕ) : Type 0 where

@@ -8,7 +8,6 @@ ghost use Rattle.model.specs.Arena.{fill};
 ghost use Rattle.model.specs.Rows.{swaps_of};
 ghost use Rattle.model.specs.Steps.{step};
 ghost use Rattle.table.specs.Words.{rows_read};
-ghost use Rattle.script.specs.declared.Parsed.TheVariants.{Script};
 ghost use Rattle.script.specs.Lines.{parse};
 ghost use Rattle.script.specs.Printing.{page, written, line1};
 ghost use Rattle.script.specs.Replay.{five_totals, replay_text};
@@ -16,7 +15,7 @@ ghost use Rattle.archive.specs.Does.{meant};
 ghost use Rattle.play.specs.Plays.{numbers_of, step_in, per_line, one_step, run_in, section_run, Reached, Plays, Performs, Prints};
 
 use model::{Control, Move};
-use script::Parsed;
+use script::Script;
 use turns::Numbers;
 
 // "at most 65,536 bytes"
@@ -154,9 +153,10 @@ fn section(
         result arena.new table.new out.new }
 {
     let mut words = [0u32; WORDS];
-    script::reading::numbers(input, numbers_in(admission, count), start, &mut words, 0);
+    let words = &mut words[..numbers_in(admission, count)];
+    script::reading::numbers(input, start, words);
     let next = script::printing::put_line(out, at, count as u64);
-    play_steps(control, arena, table, &words, admission, count, out, next)
+    play_steps(control, arena, table, words, admission, count, out, next)
 }
 
 // "then five totals: begun, committed, aborted, all swaps, fill"
@@ -198,30 +198,32 @@ fn blank() -> Control {
 }
 
 // The admissions and the steps behind them, on a fresh archive.
-fn perform(
-    input: &[u8],
-    admissions: u32,
-    first: usize,
-    steps: u32,
-    second: usize,
-    out: &mut [u8],
-) -> usize
-    requires { (length input.now ≤ 65536) × (parse input.now ≡ Script admissions first steps second) }
-    ensures { Performs input.now admissions first steps second out.old out.new result }
+fn perform(input: &[u8], script: Script, out: &mut [u8]) -> usize
+    requires { (length input.now ≤ 65536) × (parse input.now ≡ Ok script) }
+    ensures { Performs input.now script out.old out.new result }
 {
     let mut arena = [0u32; 8192];
     let mut table = [0u32; 96];
     let fresh = archive::fresh(blank(), &mut arena, &mut table);
     let empty = fresh.control;
+    let Script { admissions, steps } = script;
     let admitted = section(
-        input, first, true, admissions, empty, &mut arena, &mut table, out, 0,
+        input,
+        admissions.start,
+        true,
+        admissions.count,
+        empty,
+        &mut arena,
+        &mut table,
+        out,
+        0,
     );
     let full = admitted.control;
     let stepped = section(
         input,
-        second,
+        steps.start,
         false,
-        steps,
+        steps.count,
         full,
         &mut arena,
         &mut table,
@@ -240,9 +242,7 @@ pub fn replay(input: &[u8], output: &mut [u8]) -> usize
         return script::printing::put_too_long(output, 0);
     }
     match script::reading::parse(input) {
-        Parsed::Bad(line) => script::printing::put_bad_file(output, 0, line as u64),
-        Parsed::Script(admissions, first, steps, second) => perform(
-            input, admissions, first, steps, second, output,
-        ),
+        Ok(script) => perform(input, script, output),
+        Err(bad) => script::printing::put_bad_file(output, 0, bad.line as u64),
     }
 }

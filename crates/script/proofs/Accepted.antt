@@ -11,68 +11,63 @@ use lib.Dec.{eqb}
 use lib.ListN.{length, get_or, drop, length-append}
 use lib.Seq.{drop-cons, drop-length, take_at, drop_at}
 use Rattle.model.specs.Choice.{pick}
+use Rattle.std.specs.Prelude.{Option, Some, None, Result, Ok, Err, ok_or}
 use Rattle.script.specs.declared.Found.{Found}
-use Rattle.script.specs.declared.Found.TheVariants.{Number, Nothing}
-use Rattle.script.specs.declared.Reached.{Reached}
-use Rattle.script.specs.declared.Reached.TheVariants.{Wrong, At}
-use Rattle.script.specs.declared.Part.{Part}
-use Rattle.script.specs.declared.Part.TheVariants.{WrongLine, Lines}
-use Rattle.script.specs.declared.Parsed.{Parsed}
-use Rattle.script.specs.declared.Parsed.TheVariants.{Bad, Script}
-use Rattle.script.specs.Numbers.{number_at}
+use Rattle.script.specs.declared.Section.{Section}
+use Rattle.script.specs.declared.Script.{Script}
+use Rattle.script.specs.declared.BadFile.{BadFile}
+use Rattle.script.specs.Numbers.{found, number_at}
 use Rattle.script.specs.Printing.{decimal, line1}
-use Rattle.script.specs.Lines.{marked, field_at, line_at, lines_at, counted, section_of, section_at, script_of, steps_behind, parse}
+use Rattle.script.specs.Lines.{◌>>=◌, bad, marked, field_at, line_at, lines_at, section_at, both, parse}
 use Rattle.script.specs.Lines.{numbers_at}
 use Rattle.script.proofs.Numbers.{in_text, picked, number_takes}
 use Rattle.script.specs.Texts.{line_rest, line_text, lines_text, script_text, Small, none, more, ScriptNumbers}
 use Rattle.script.proofs.Decimal.{number_stands}
-use Rattle.script.proofs.Lines.{line_ends, line_goes_on, line_breaks, lines_end, lines_go_on, lines_break, numbers_none}
-use Rattle.script.proofs.Lines.{numbers_go_on}
+use Rattle.script.proofs.Lines.{then_ok, then_err, ok_of, err_of, line_ends, line_goes_on, line_breaks, numbers_none, numbers_go_on}
 
--- nothing is found where a number is
-no_number : {A : Type 0} (x : Found) (v next : ℕ) → x ≡ Nothing → x ≡ Number v next → A
-no_number x v next p q = let z : ◌≡◌ {A = ℕ} 0 1 = cc in absurd (omega arith)
-
-not_reached : {A : Type 0} {n next : ℕ} (x : Reached) → x ≡ Wrong n → x ≡ At next → A
-not_reached x p q = let z : ◌≡◌ {A = ℕ} 0 1 = cc in absurd (omega arith)
-
-not_lines : {A : Type 0} {n count start next : ℕ} (x : Part) → x ≡ WrongLine n → x ≡ Lines count start next → A
-not_lines x p q = let z : ◌≡◌ {A = ℕ} 0 1 = cc in absurd (omega arith)
+-- nothing is found where something is
+no_number : {A : Type 0} (x : Option Found) (n : Found) → x ≡ None → x ≡ Some n → A
+no_number x n p q = let z : ◌≡◌ {A = ℕ} 0 1 = cc in absurd (omega arith)
 
 -- a field: a number and behind it the mark
 record Field (s : List ℕ) (mark at v next : ℕ) : Type 0 where
   pub behind : ℕ
-  pub found : number_at s at ≡ Number v behind
+  pub stands_there : number_at s at ≡ Some (found v behind)
   pub marks : get_or s behind 0 ≡ mark
   pub ends : behind + 1 ≡ next
 
-field_by : (s : List ℕ) (mark at v next : ℕ) (x : Found) → number_at s at ≡ x → marked s mark x ≡ Number v next → Field s mark at v next
-field_by s mark at v next Nothing e f = no_number Nothing v next refl f
-field_by s mark at v next (Number w m) e f =
-    let p = picked (eqb (get_or s m 0) mark) w (m + 1) v next f in
-    record { behind = m; found = e ∙ ap (λ (x : ℕ). Number x m) p.1.0; marks = eqb-true (get_or s m 0) mark p.0; ends = p.1.1 }
+field_by : (s : List ℕ) (mark at : ℕ) (n : Found) (x : Option Found) → number_at s at ≡ x → marked s mark x ≡ Some n
+    → Field s mark at n.value n.end
+field_by s mark at n None e f = no_number None n refl f
+field_by s mark at n (Some x) e f =
+    let p = picked (eqb (get_or s x.end 0) mark) (found x.value (x.end + 1)) n f in
+    record {
+      behind = x.end;
+      stands_there = e ∙ ap (λ (y : Found). Some (found y.value x.end)) p.1;
+      marks = eqb-true (get_or s x.end 0) mark p.0;
+      ends = ap (λ (y : Found). y.end) p.1;
+    }
 
-field_is : (s : List ℕ) (mark at v next : ℕ) → field_at s mark at ≡ Number v next → Field s mark at v next
+field_is : (s : List ℕ) (mark at : ℕ) (n : Found) → field_at s mark at ≡ Some n → Field s mark at n.value n.end
 unfolding field_at
-field_is s mark at v next e = field_by s mark at v next (number_at s at) refl e
+field_is s mark at n e = field_by s mark at n (number_at s at) refl e
 
 -- it takes two bytes, is at most 4294967295, is the first of the numbers from there on, and stands there
 module _ {s : List ℕ} {mark at v next : ℕ} (f : Field s mark at v next) where
   field_takes : (at + 2 ≤ next) × (v ≤ 4294967295)
   field_takes =
-      let t = number_takes s at v f.behind f.found in
+      let t = number_takes s at (found v f.behind) f.stands_there in
       (omega (arith, t.0, f.ends), t.1.1)
 
   field_splits : (r : ℕ) → numbers_at s (suc r) at ≡ v ∷ numbers_at s r next
   field_splits r =
-      numbers_go_on s at (suc r) v f.behind (omega arith) f.found
-      ∙ ap (λ (l : List ℕ). v ∷ l) (ap (λ (n : ℕ). numbers_at s n (f.behind + 1)) (omega arith) ∙ ap (numbers_at s r) f.ends)
+      numbers_go_on s at r (found v f.behind) f.stands_there ∙ ap (λ (n : ℕ). v ∷ numbers_at s r n) f.ends
 
   field_stands : 0 < mark → drop at s ≡ decimal v ++ (mark ∷ drop next s)
   field_stands h =
       let i : f.behind < length s = in_text s f.behind (omega (arith, f.marks)) in
       let n : suc f.behind ≡ next = omega (arith, f.ends) in
-      number_stands s at v f.behind f.found
+      number_stands s at (found v f.behind) f.stands_there
       ∙ ap (λ (l : List ℕ). decimal v ++ l)
       (drop-cons s f.behind 0 i ∙ ap (λ (b : ℕ). b ∷ drop (suc f.behind) s) f.marks ∙ ap (λ (k : ℕ). mark ∷ drop k s) n)
 
@@ -92,7 +87,7 @@ record Line (s : List ℕ) (spaces at next : ℕ) : Type 0 where
 last_number : (s : List ℕ) (at v next : ℕ) → Field s 10 at v next → Line s 0 at next
 unfolding line_text line_rest
 last_number s at v next f =
-    let one : numbers_at s 1 at ≡ v ∷ [] = field_splits f 0 ∙ ap (λ (l : List ℕ). v ∷ l) (numbers_none s next) in
+    let one : numbers_at s 1 at ≡ v ∷ [] = field_splits f 0 ∙ ap (λ (l : List ℕ). v ∷ l) (numbers_none s next 0 refl) in
     record {
       takes = omega (arith, (field_takes f).0);
       splits = λ r. ap (λ (n : ℕ). numbers_at s n at) (omega arith) ∙ field_splits f r
@@ -119,17 +114,15 @@ number_before s spaces at w m next f l =
           ∙ sym (append_assoc (decimal w) (32 ∷ line_text ns) (drop next s)));
     }
 
-line_by : (s : List ℕ) (spaces at v next : ℕ) (x : Found) → field_at s 32 at ≡ x → line_at s (suc spaces) at ≡ Number v next
-    → ((m : ℕ) → line_at s spaces m ≡ Number v next → Line s spaces m next) → Line s (suc spaces) at next
-line_by s spaces at v next Nothing f e ih = no_number (line_at s (suc spaces) at) v next (line_breaks s at (suc spaces) (omega arith) f) e
-line_by s spaces at v next (Number w m) f e ih =
-    let g : line_at s (suc spaces) at ≡ line_at s spaces m =
-    line_goes_on s at (suc spaces) w m (omega arith) f ∙ ap (λ (n : ℕ). line_at s n m) (omega arith) in
-    number_before s spaces at w m next (field_is s 32 at w m f) (ih m (sym g ∙ e))
+line_by : (s : List ℕ) (spaces at : ℕ) (n : Found) (x : Option Found) → field_at s 32 at ≡ x → line_at s (suc spaces) at ≡ Some n
+    → ((m : ℕ) → line_at s spaces m ≡ Some n → Line s spaces m n.end) → Line s (suc spaces) at n.end
+line_by s spaces at n None f e ih = no_number (line_at s (suc spaces) at) n (line_breaks s at spaces f) e
+line_by s spaces at n (Some x) f e ih =
+    number_before s spaces at x.value x.end n.end (field_is s 32 at x f) (ih x.end (sym (line_goes_on s at spaces x f) ∙ e))
 
-line_is : (s : List ℕ) (spaces at v next : ℕ) → line_at s spaces at ≡ Number v next → Line s spaces at next
-line_is s zero at v next e = last_number s at v next (field_is s 10 at v next (sym (line_ends s at) ∙ e))
-line_is s (suc spaces) at v next e = line_by s spaces at v next (field_at s 32 at) refl e (λ m. line_is s spaces m v next)
+line_is : (s : List ℕ) (spaces at : ℕ) (n : Found) → line_at s spaces at ≡ Some n → Line s spaces at n.end
+line_is s zero at n e = last_number s at n.value n.end (field_is s 10 at n (sym (line_ends s at 0 refl) ∙ e))
+line_is s (suc spaces) at n e = line_by s spaces at n (field_at s 32 at) refl e (λ m. line_is s spaces m n)
 
 small_append : {l : List ℕ} {m : List ℕ} → Small l → Small m → Small (l ++ m)
 small_append none q = q
@@ -145,7 +138,7 @@ record Block (s : List ℕ) (count spaces at next : ℕ) : Type 0 where
 no_lines : (s : List ℕ) (spaces at : ℕ) → Block s 0 spaces at at
 unfolding lines_text
 no_lines s spaces at =
-    let empty : numbers_at s (0 * suc spaces) at ≡ [] = ap (λ (n : ℕ). numbers_at s n at) (zero-mul (suc spaces)) ∙ numbers_none s at in
+    let empty : numbers_at s (0 * suc spaces) at ≡ [] = ap (λ (n : ℕ). numbers_at s n at) (zero-mul (suc spaces)) ∙ numbers_none s at 0 refl in
     record {
       takes = rw zero-mul (omega arith);
       whole = ap length empty ∙ sym (zero-mul (suc spaces));
@@ -171,179 +164,139 @@ line_before s count spaces at m next l b =
           ∙ sym (append_assoc (line_text a) (lines_text count w r) (drop next s)));
     }
 
-lines_by : (s : List ℕ) (count spaces first at next : ℕ) (x : Found) → line_at s spaces at ≡ x
-    → lines_at s (suc count) spaces first at ≡ At next
-    → ((m : ℕ) → lines_at s count spaces (first + 1) m ≡ At next → Block s count spaces m next) → Block s (suc count) spaces at next
-lines_by s count spaces first at next Nothing f e ih =
-    not_reached (lines_at s (suc count) spaces first at) (lines_break s spaces first at (suc count) (omega arith) f) e
-lines_by s count spaces first at next (Number v m) f e ih =
-    let g : lines_at s (suc count) spaces first at ≡ lines_at s count spaces (first + 1) m =
-    lines_go_on s spaces first at (suc count) v m (omega arith) f ∙ ap (λ (n : ℕ). lines_at s n spaces (first + 1) m) (omega arith) in
-    line_before s count spaces at m next (line_is s spaces at v m f) (ih m (sym g ∙ e))
-
-lines_are : (s : List ℕ) (count spaces first at next : ℕ) → lines_at s count spaces first at ≡ At next → Block s count spaces at next
-lines_are s zero spaces first at next e =
-    let same : At at ≡ At next = sym (lines_end s spaces first at) ∙ e in
-    let z : at ≡ next = cc in
-    subst (λ (n : ℕ). Block s 0 spaces at n) z (no_lines s spaces at)
+lines_are : (s : List ℕ) (count spaces first at next : ℕ) → lines_at s count spaces first at ≡ Ok next → Block s count spaces at next
+unfolding lines_at
+lines_are s zero spaces first at next e = let z : at ≡ next = cc in subst (λ (n : ℕ). Block s 0 spaces at n) z (no_lines s spaces at)
 lines_are s (suc count) spaces first at next e =
-    lines_by s count spaces first at next (line_at s spaces at) refl e (λ m. lines_are s count spaces (first + 1) m next)
+    let p = then_ok (ok_or (line_at s spaces at) (bad first)) (λ (n : Found). lines_at s count spaces (first + 1) n.end) next e in
+    line_before s count spaces at p.0.end next (line_is s spaces at p.0 (ok_of (line_at s spaces at) (bad first) p.0 p.1))
+    (lines_are s count spaces (first + 1) p.0.end next p.2)
 
 -- a section: its count's line and its lines
-record Section (s : List ℕ) (spaces at count start next : ℕ) : Type 0 where
-  pub takes : at + 2 + count * (2 * spaces + 2) ≤ next
-  pub few : count ≤ 4294967295
-  pub whole : length (numbers_at s (count * suc spaces) start) ≡ count * suc spaces
-  pub small : Small (numbers_at s (count * suc spaces) start)
-  pub stands : drop at s ≡ (line1 count ++ lines_text count (suc spaces) (numbers_at s (count * suc spaces) start)) ++ drop next s
+record SectionThere (s : List ℕ) (spaces at : ℕ) (k : Section) : Type 0 where
+  pub takes : at + 2 + k.count * (2 * spaces + 2) ≤ k.end
+  pub few : k.count ≤ 4294967295
+  pub whole : length (numbers_at s (k.count * suc spaces) k.start) ≡ k.count * suc spaces
+  pub small : Small (numbers_at s (k.count * suc spaces) k.start)
+  pub stands : drop at s ≡ (line1 k.count ++ lines_text k.count (suc spaces) (numbers_at s (k.count * suc spaces) k.start)) ++ drop k.end s
 
-count_before : (s : List ℕ) (spaces at c st next : ℕ) → Field s 10 at c st → Block s c spaces st next → Section s spaces at c st next
+count_before : (s : List ℕ) (spaces at : ℕ) (k : Section) → Field s 10 at k.count k.start → Block s k.count spaces k.start k.end
+    → SectionThere s spaces at k
 unfolding line1
-count_before s spaces at c st next f b =
-    let lines : List ℕ = lines_text c (suc spaces) (numbers_at s (c * suc spaces) st) in
+count_before s spaces at k f b =
+    let lines : List ℕ = lines_text k.count (suc spaces) (numbers_at s (k.count * suc spaces) k.start) in
     let t = field_takes f in
     record {
       takes = omega (arith, t.0, b.takes);
       few = t.1;
       whole = b.whole;
       small = b.small;
-      stands = field_stands f (omega arith) ∙ ap (λ (x : List ℕ). decimal c ++ (10 ∷ x)) b.stands ∙ sym (simp append_assoc);
+      stands = field_stands f (omega arith) ∙ ap (λ (x : List ℕ). decimal k.count ++ (10 ∷ x)) b.stands ∙ sym (simp append_assoc);
     }
 
-section_by_lines : (s : List ℕ) (spaces first at count start next c st : ℕ) (r : Reached) → line_at s 0 at ≡ Number c st
-    → lines_at s c spaces (first + 1) st ≡ r → counted c st r ≡ Lines count start next → Section s spaces at count start next
-section_by_lines s spaces first at count start next c st (Wrong n) f g e = not_lines (WrongLine n) refl e
-section_by_lines s spaces first at count start next c st (At m) f g e =
-    let p : c ≡ count = cc in
-    let q : st ≡ start = cc in
-    let n : m ≡ next = cc in
-    let all : Section s spaces at c st m =
-    count_before s spaces at c st m (field_is s 10 at c st (sym (line_ends s at) ∙ f)) (lines_are s c spaces (first + 1) st m g) in
-    rw (p, q, n) at all
+-- a line of one number is a field
+one_field : (s : List ℕ) (first at : ℕ) (n : Found) → ok_or (line_at s 0 at) (bad first) ≡ Ok n → Field s 10 at n.value n.end
+one_field s first at n e = field_is s 10 at n (sym (line_ends s at 0 refl) ∙ ok_of (line_at s 0 at) (bad first) n e)
 
-section_by : (s : List ℕ) (spaces first at count start next : ℕ) (x : Found) → line_at s 0 at ≡ x
-    → section_of s spaces first x ≡ Lines count start next → Section s spaces at count start next
-section_by s spaces first at count start next Nothing f e = not_lines (WrongLine first) refl e
-section_by s spaces first at count start next (Number c st) f e =
-    section_by_lines s spaces first at count start next c st (lines_at s c spaces (first + 1) st) f refl e
+-- what is read behind a section's count
+abbrev lines_behind : List ℕ → ℕ → ℕ → Found → Result Section BadFile
+lines_behind s spaces first n =
+    lines_at s n.value spaces (first + 1) n.end >>= (λ (end : ℕ). Ok (record { count = n.value; start = n.end; end = end }))
 
-section_is : (s : List ℕ) (spaces first at count start next : ℕ) → section_at s spaces first at ≡ Lines count start next
-    → Section s spaces at count start next
+section_is : (s : List ℕ) (spaces first at : ℕ) (k : Section) → section_at s spaces first at ≡ Ok k → SectionThere s spaces at k
 unfolding section_at
-section_is s spaces first at count start next e = section_by s spaces first at count start next (line_at s 0 at) refl e
+section_is s spaces first at k e =
+    let p = then_ok (ok_or (line_at s 0 at) (bad first)) (lines_behind s spaces first) k e in
+    let q = then_ok (lines_at s p.0.value spaces (first + 1) p.0.end) (λ (end : ℕ). Ok (record { count = p.0.value; start = p.0.end; end = end })) k p.2 in
+    let same : record { count = p.0.value; start = p.0.end; end = q.0 } ≡ k = cc in
+    subst (SectionThere s spaces at) same
+    (count_before s spaces at (record { count = p.0.value; start = p.0.end; end = q.0 }) (one_field s first at p.0 p.1)
+    (lines_are s p.0.value spaces (first + 1) p.0.end q.0 q.1))
 
 -- A script: four bytes for each admission, ten for each step, two for each count; all its numbers are there; and it is their text.
-pub record Fits (s : List ℕ) (admissions at steps start : ℕ) : Type 0 where
-  pub bytes : 4 * admissions + 10 * steps + 4 ≤ length s
-  pub numbers : ScriptNumbers admissions (numbers_at s (2 * admissions) at) steps (numbers_at s (5 * steps) start)
-  pub stands : s ≡ script_text admissions (numbers_at s (2 * admissions) at) steps (numbers_at s (5 * steps) start)
+pub record Fits (s : List ℕ) (k : Script) : Type 0 where
+  pub bytes : 4 * k.admissions.count + 10 * k.steps.count + 4 ≤ length s
+  pub numbers : ScriptNumbers k.admissions.count (numbers_at s (2 * k.admissions.count) k.admissions.start)
+      k.steps.count (numbers_at s (5 * k.steps.count) k.steps.start)
+  pub stands : s ≡ script_text k.admissions.count (numbers_at s (2 * k.admissions.count) k.admissions.start)
+      k.steps.count (numbers_at s (5 * k.steps.count) k.steps.start)
 
-pub not_script : {A : Type 0} {n m at k start : ℕ} (x : Parsed) → x ≡ Bad n → x ≡ Script m at k start → A
-not_script x p q = let z : ◌≡◌ {A = ℕ} 0 1 = cc in absurd (omega arith)
-
-chosen : (s : List ℕ) (x : Bool) (n m at k start m' at' k' start' : ℕ) → pick x (Script m at k start) (Bad n) ≡ Script m' at' k' start'
-    → Fits s m at k start → Fits s m' at' k' start'
-chosen s true n m at k start m' at' k' start' e f =
-    let p : m ≡ m' = cc in
-    let q : at ≡ at' = cc in
-    let u : k ≡ k' = cc in
-    let v : start ≡ start' = cc in
-    rw (p, q, u, v) at f
-chosen s false n m at k start m' at' k' start' e f = not_script (Bad n) refl e
-
-ended : (x : Bool) (n m at k start m' at' k' start' : ℕ) → pick x (Script m at k start) (Bad n) ≡ Script m' at' k' start' → x ≡ true
-ended true n m at k start m' at' k' start' e = refl
-ended false n m at k start m' at' k' start' e = not_script (Bad n) refl e
-
-both_stand : (s : List ℕ) (m at k start next end : ℕ) → Section s 1 0 m at next → Section s 4 next k start end → end ≡ length s
-    → s ≡ script_text m (numbers_at s (m * 2) at) k (numbers_at s (k * 5) start)
+both_stand : (s : List ℕ) (a b : Section) → SectionThere s 1 0 a → SectionThere s 4 a.end b → b.end ≡ length s
+    → s ≡ script_text a.count (numbers_at s (a.count * 2) a.start) b.count (numbers_at s (b.count * 5) b.start)
 unfolding script_text
-both_stand s m at k start next end t u z =
-    let steps : List ℕ = line1 k ++ lines_text k 5 (numbers_at s (k * 5) start) in
+both_stand s a b t u z =
+    let steps : List ℕ = line1 b.count ++ lines_text b.count 5 (numbers_at s (b.count * 5) b.start) in
     t.stands
-    ∙ ap (λ (x : List ℕ). (line1 m ++ lines_text m 2 (numbers_at s (m * 2) at)) ++ x)
+    ∙ ap (λ (x : List ℕ). (line1 a.count ++ lines_text a.count 2 (numbers_at s (a.count * 2) a.start)) ++ x)
     (u.stands ∙ ap (λ (x : List ℕ). steps ++ x) (ap (λ (n : ℕ). drop n s) z ∙ drop-length s) ∙ append-nil steps)
 
-script_by_steps : (s : List ℕ) (m at next m' at' k start : ℕ) (y : Part) → section_at s 4 (m + 2) next ≡ y → Section s 1 0 m at next
-    → script_of s m at y ≡ Script m' at' k start → Fits s m' at' k start
-script_by_steps s m at next m' at' k start (WrongLine n) f t e = not_script (Bad n) refl e
-script_by_steps s m at next m' at' k start (Lines steps st end) f t e =
-    let u = section_is s 4 (m + 2) next steps st end f in
-    let z : end ≡ length s = eqb-true end (length s) (ended (eqb end (length s)) (m + steps + 3) m at steps st m' at' k start e) in
-    let fits : Fits s m at steps st =
+abbrev script : Section → Section → Script
+script a b = record { admissions = a; steps = b }
+
+both_fit : (s : List ℕ) (a b : Section) → SectionThere s 1 0 a → SectionThere s 4 a.end b → b.end ≡ length s → Fits s (script a b)
+both_fit s a b t u z =
     record {
       bytes = omega (arith, t.takes, u.takes);
       numbers =
           record {
             few_admissions = t.few;
             few_steps = u.few;
-            two_each = rw (mul_comm 2 m) t.whole;
-            five_each = rw (mul_comm 5 steps) u.whole;
-            small_admissions = rw (mul_comm 2 m) t.small;
-            small_steps = rw (mul_comm 5 steps) u.small;
+            two_each = rw (mul_comm 2 a.count) t.whole;
+            five_each = rw (mul_comm 5 b.count) u.whole;
+            small_admissions = rw (mul_comm 2 a.count) t.small;
+            small_steps = rw (mul_comm 5 b.count) u.small;
           };
-      stands = rw (mul_comm 2 m, mul_comm 5 steps) (both_stand s m at steps st next end t u z);
-    } in
-    chosen s (eqb end (length s)) (m + steps + 3) m at steps st m' at' k start e fits
+      stands = rw (mul_comm 2 a.count, mul_comm 5 b.count) (both_stand s a b t u z);
+    }
 
-script_by : (s : List ℕ) (m at k start : ℕ) (x : Part) → section_at s 1 1 0 ≡ x → steps_behind s x ≡ Script m at k start → Fits s m at k start
-script_by s m at k start (WrongLine n) f e = not_script (Bad n) refl e
-script_by s m at k start (Lines a st next) f e =
-    script_by_steps s a st next m at k start (section_at s 4 (a + 2) next) refl (section_is s 1 1 0 a st next f) e
+-- the end of the text decides
+ended : (x : Bool) (n : ℕ) (k j : Script) → pick x (Ok k) (Err (bad n)) ≡ Ok j → (x ≡ true) × (k ≡ j)
+ended true n k j e = (refl, cc)
+ended false n k j e = let z : ◌≡◌ {A = ℕ} 0 1 = cc in absurd (omega arith)
 
-pub script_fits : (s : List ℕ) (m at k start : ℕ) → parse s ≡ Script m at k start → Fits s m at k start
+pub script_fits : (s : List ℕ) (k : Script) → parse s ≡ Ok k → Fits s k
 unfolding parse
-script_fits s m at k start e = script_by s m at k start (section_at s 1 1 0) refl e
+script_fits s k e =
+    let p = then_ok (section_at s 1 1 0) (λ (a : Section). section_at s 4 (a.count + 2) a.end >>= both s a) k e in
+    let a : Section = p.0 in
+    let q = then_ok (section_at s 4 (a.count + 2) a.end) (both s a) k p.2 in
+    let b : Section = q.0 in
+    let r = ended (eqb b.end (length s)) (a.count + b.count + 3) (script a b) k q.2 in
+    subst (Fits s) r.1
+    (both_fit s a b (section_is s 1 1 0 a p.1) (section_is s 4 (a.count + 2) a.end b q.1) (eqb-true b.end (length s) r.0))
 
 -- The number of a wrong line has at most ten digits.
-wrong_by : (s : List ℕ) (count spaces first at n : ℕ) (x : Found) → line_at s spaces at ≡ x → lines_at s (suc count) spaces first at ≡ Wrong n
-    → ((m : ℕ) → lines_at s count spaces (first + 1) m ≡ Wrong n → n ≤ first + 1 + count) → n ≤ first + suc count
-wrong_by s count spaces first at n Nothing f e ih =
-    let same : Wrong first ≡ Wrong n = sym (lines_break s spaces first at (suc count) (omega arith) f) ∙ e in
-    let z : first ≡ n = cc in
-    omega arith
-wrong_by s count spaces first at n (Number v m) f e ih =
-    let g : lines_at s (suc count) spaces first at ≡ lines_at s count spaces (first + 1) m =
-    lines_go_on s spaces first at (suc count) v m (omega arith) f ∙ ap (λ (j : ℕ). lines_at s j spaces (first + 1) m) (omega arith) in
-    omega (arith, ih m (sym g ∙ e))
+wrong_low : (s : List ℕ) (count spaces first at : ℕ) (d : BadFile) → lines_at s count spaces first at ≡ Err d → d.line ≤ first + count
+unfolding lines_at
+wrong_low s zero spaces first at d e = let z : ◌≡◌ {A = ℕ} 0 1 = cc in absurd (omega arith)
+wrong_low s (suc count) spaces first at d e =
+    then_err (ok_or (line_at s spaces at) (bad first)) (λ (n : Found). lines_at s count spaces (first + 1) n.end) d e
+    (λ g. let z : first ≡ d.line = ap (λ (x : BadFile). x.line) (err_of (line_at s spaces at) (bad first) d g) in omega arith)
+    (λ n f g. omega (arith, wrong_low s count spaces (first + 1) n.end d g))
 
-wrong_low : (s : List ℕ) (count spaces first at n : ℕ) → lines_at s count spaces first at ≡ Wrong n → n ≤ first + count
-wrong_low s zero spaces first at n e = not_reached (lines_at s 0 spaces first at) e (lines_end s spaces first at)
-wrong_low s (suc count) spaces first at n e =
-    wrong_by s count spaces first at n (line_at s spaces at) refl e (λ m. wrong_low s count spaces (first + 1) m n)
-
-section_wrong_lines : (s : List ℕ) (spaces first at n c st : ℕ) (r : Reached) → line_at s 0 at ≡ Number c st
-    → lines_at s c spaces (first + 1) st ≡ r → counted c st r ≡ WrongLine n → n ≤ first + 4294967296
-section_wrong_lines s spaces first at n c st (At m) f g e = not_lines (counted c st (At m)) e refl
-section_wrong_lines s spaces first at n c st (Wrong k) f g e =
-    let z : k ≡ n = cc in
-    omega (arith, wrong_low s c spaces (first + 1) st k g, (field_takes (field_is s 10 at c st (sym (line_ends s at) ∙ f))).1)
-
-section_wrong_by : (s : List ℕ) (spaces first at n : ℕ) (x : Found) → line_at s 0 at ≡ x → section_of s spaces first x ≡ WrongLine n
-    → n ≤ first + 4294967296
-section_wrong_by s spaces first at n Nothing f e = let z : first ≡ n = cc in omega arith
-section_wrong_by s spaces first at n (Number c st) f e =
-    section_wrong_lines s spaces first at n c st (lines_at s c spaces (first + 1) st) f refl e
-
-section_wrong : (s : List ℕ) (spaces first at n : ℕ) → section_at s spaces first at ≡ WrongLine n → n ≤ first + 4294967296
+section_wrong : (s : List ℕ) (spaces first at : ℕ) (d : BadFile) → section_at s spaces first at ≡ Err d → d.line ≤ first + 4294967296
 unfolding section_at
-section_wrong s spaces first at n e = section_wrong_by s spaces first at n (line_at s 0 at) refl e
+section_wrong s spaces first at d e =
+    then_err (ok_or (line_at s 0 at) (bad first)) (lines_behind s spaces first) d e
+    (λ g. let z : first ≡ d.line = ap (λ (x : BadFile). x.line) (err_of (line_at s 0 at) (bad first) d g) in omega arith)
+    (λ n f g. then_err (lines_at s n.value spaces (first + 1) n.end) (λ (end : ℕ). Ok (record { count = n.value; start = n.end; end = end })) d g
+    (λ h. omega (arith, wrong_low s n.value spaces (first + 1) n.end d h, (field_takes (one_field s first at n f)).1))
+    (λ end h k. let z : ◌≡◌ {A = ℕ} 0 1 = cc in absurd (omega arith)))
 
-refused : (x : Bool) (m at k start j n : ℕ) → pick x (Script m at k start) (Bad j) ≡ Bad n → j ≡ n
-refused true m at k start j n e = not_script (Script m at k start) e refl
-refused false m at k start j n e = cc
+refused : (x : Bool) (n : ℕ) (k : Script) (d : BadFile) → pick x (Ok k) (Err (bad n)) ≡ Err d → n ≡ d.line
+refused true n k d e = let z : ◌≡◌ {A = ℕ} 0 1 = cc in absurd (omega arith)
+refused false n k d e = let z : bad n ≡ d = cc in ap (λ (x : BadFile). x.line) z
 
-bad_by_steps : (s : List ℕ) (m at next n : ℕ) (y : Part) → section_at s 4 (m + 2) next ≡ y → m ≤ 4294967295 → script_of s m at y ≡ Bad n
-    → n < 10000000000
-bad_by_steps s m at next n (WrongLine k) f h e = let z : k ≡ n = cc in omega (arith, section_wrong s 4 (m + 2) next k f)
-bad_by_steps s m at next n (Lines steps st end) f h e =
-    omega (arith, refused (eqb end (length s)) m at steps st (m + steps + 3) n e, (section_is s 4 (m + 2) next steps st end f).few)
-
-bad_by : (s : List ℕ) (n : ℕ) (x : Part) → section_at s 1 1 0 ≡ x → steps_behind s x ≡ Bad n → n < 10000000000
-bad_by s n (WrongLine k) f e = let z : k ≡ n = cc in omega (arith, section_wrong s 1 1 0 k f)
-bad_by s n (Lines a st next) f e =
-    bad_by_steps s a st next n (section_at s 4 (a + 2) next) refl (section_is s 1 1 0 a st next f).few e
-
-pub bad_low : (s : List ℕ) (n : ℕ) → parse s ≡ Bad n → n < 10000000000
+pub bad_low : (s : List ℕ) (d : BadFile) → parse s ≡ Err d → d.line < 10000000000
 unfolding parse
-bad_low s n e = bad_by s n (section_at s 1 1 0) refl e
+bad_low s d e =
+    then_err (section_at s 1 1 0) (λ (a : Section). section_at s 4 (a.count + 2) a.end >>= both s a) d e
+    (λ f. omega (arith, section_wrong s 1 1 0 d f))
+    (λ a f g. then_err (section_at s 4 (a.count + 2) a.end) (both s a) d g
+    (λ h. omega (arith, section_wrong s 4 (a.count + 2) a.end d h, (section_is s 1 1 0 a f).few))
+    (λ b h k. omega (
+      arith,
+      refused (eqb b.end (length s)) (a.count + b.count + 3) (script a b) d k,
+      (section_is s 1 1 0 a f).few,
+      (section_is s 4 (a.count + 2) a.end b h).few,
+    )))

@@ -5,17 +5,15 @@ use mathlib.Core.List.{List, [], ◌∷◌, ◌++◌, append_assoc, append-nil}
 use Prim.Native.Nat.{ℕ, zero, suc, ◌+◌, ◌*◌, ◌≤◌, ◌<◌}
 use native.Mathlib.Nat.{suc-mul, zero-mul, mul_comm}
 use native.Mathlib.Omega.{arith}
+use borrow.Author.Tests.{eq-eqb}
 use lib.ListN.{length, get_or, take, drop, length-drop, take-append-drop}
 use lib.Seq.{length-take-le, drop-append-add, get_or-drop, get_or-append_seam, drop-drop}
-use Rattle.script.specs.declared.Found.TheVariants.{Number}
-use Rattle.script.specs.declared.Reached.TheVariants.{At}
-use Rattle.script.specs.declared.Part.TheVariants.{Lines}
-use Rattle.script.specs.declared.Parsed.TheVariants.{Script}
-use Rattle.script.specs.Numbers.{is_digit, number_at}
-use Rattle.script.specs.Lines.{field_at, line_at, lines_at, section_at, script_of, parse, numbers_at}
+use Rattle.std.specs.Prelude.{Some, Ok}
+use Rattle.script.specs.declared.Script.{Script}
+use Rattle.script.specs.Numbers.{is_digit, found, number_at}
+use Rattle.script.specs.Lines.{field_at, line_at, lines_at, section_at, parse, numbers_at}
 use Rattle.script.specs.Printing.{decimal, line1}
-use Rattle.script.proofs.Lines.{field_marked, line_ends, line_goes_on, lines_end, lines_go_on, less_one, numbers_none}
-use Rattle.script.proofs.Lines.{numbers_go_on, section_counted, parse_by, script_ends}
+use Rattle.script.proofs.Lines.{field_marked, line_ends, line_goes_on, lines_end, lines_go_on, numbers_none, numbers_go_on}
 use Rattle.script.proofs.Numbers.{in_text}
 use Rattle.script.proofs.Decimal.{number_reads}
 use Rattle.script.specs.Texts.{line_rest, line_text, lines_text, script_text, Small, none, more, ScriptNumbers}
@@ -33,7 +31,7 @@ small_drop (suc w) (more h p) = small_drop w p
 -- a field that stands at a place is found there, and what follows it is left
 record FieldRead (s : List ℕ) (mark at n : ℕ) (rest : List ℕ) : Type 0 where
   pub next : ℕ
-  pub found : field_at s mark at ≡ Number n next
+  pub there : field_at s mark at ≡ Some (found n next)
   pub first : (r : ℕ) → numbers_at s (suc r) at ≡ n ∷ numbers_at s r next
   pub left : drop next s ≡ rest
   pub within : next ≤ length s
@@ -44,13 +42,13 @@ field_reads s mark at n rest h z m e =
     let d : List ℕ = decimal n in
     let behind : ℕ = at + length d in
     let place : behind + 1 ≡ at + (length d + 1) = omega arith in
-    let number : number_at s at ≡ Number n behind = number_reads s at n mark rest h m e in
+    let number : number_at s at ≡ Some (found n behind) = number_reads s at n mark rest h m e in
     let byte : get_or s behind 0 ≡ mark =
     sym (get_or-drop at s (length d) 0) ∙ ap (λ (l : List ℕ). get_or l (length d) 0) e ∙ get_or-append_seam d mark rest 0 in
     record {
       next = behind + 1;
-      found = field_marked s mark at n behind number byte;
-      first = λ r. numbers_go_on s at (suc r) n behind (omega arith) number ∙ ap (λ (k : ℕ). n ∷ numbers_at s k (behind + 1)) (less_one r);
+      there = field_marked s mark at (found n behind) number byte;
+      first = λ r. numbers_go_on s at r (found n behind) number;
       left = ap (λ (k : ℕ). drop k s) place ∙ sym (drop-drop (length d + 1) at s) ∙ ap (drop (length d + 1)) e
           ∙ drop-append-add d (mark ∷ rest) 1;
       within = omega (arith, in_text s behind (omega (arith, byte)));
@@ -68,7 +66,7 @@ lf_no_digit = refl
 record LineRead (s : List ℕ) (spaces at : ℕ) (l rest : List ℕ) : Type 0 where
   pub value : ℕ
   pub next : ℕ
-  pub found : line_at s spaces at ≡ Number value next
+  pub there : line_at s spaces at ≡ Some (found value next)
   pub first : (r : ℕ) → numbers_at s (suc spaces + r) at ≡ l ++ numbers_at s r next
   pub left : drop next s ≡ rest
   pub within : next ≤ length s
@@ -81,7 +79,7 @@ line_reads s at n [] rest h p e =
     record {
       value = n;
       next = f.next;
-      found = line_ends s at ∙ f.found;
+      there = line_ends s at 0 refl ∙ f.there;
       first = λ r. ap (λ (k : ℕ). numbers_at s k at) (omega arith) ∙ f.first r;
       left = f.left;
       within = f.within;
@@ -93,9 +91,7 @@ line_reads s at n (m ∷ l) rest h (more q p) e =
     record {
       value = g.value;
       next = g.next;
-      found = line_goes_on s at (suc (length l)) n f.next (omega arith) f.found
-          ∙ ap (λ (k : ℕ). line_at s k f.next) (less_one (length l))
-          ∙ g.found;
+      there = line_goes_on s at (length l) (found n f.next) f.there ∙ g.there;
       first = λ r. ap (λ (k : ℕ). numbers_at s k at) (omega arith) ∙ f.first (suc (length l) + r) ∙ ap (λ (x : List ℕ). n ∷ x) (g.first r);
       left = g.left;
       within = g.within;
@@ -111,7 +107,7 @@ line_of s spaces at (n ∷ l) rest h (more q p) e =
 -- lines
 record LinesRead (s : List ℕ) (count spaces first at : ℕ) (words rest : List ℕ) : Type 0 where
   pub next : ℕ
-  pub found : lines_at s count spaces first at ≡ At next
+  pub there : lines_at s count spaces first at ≡ Ok next
   pub numbers : numbers_at s (count * suc spaces) at ≡ words
   pub left : drop next s ≡ rest
   pub within : at ≤ length s → next ≤ length s
@@ -126,8 +122,8 @@ unfolding lines_text
 lines_read s zero spaces first at words rest h p e =
     record {
       next = at;
-      found = lines_end s spaces first at;
-      numbers = ap (λ (k : ℕ). numbers_at s k at) (zero-mul (suc spaces)) ∙ numbers_none s at ∙ no_words words (h ∙ zero-mul (suc spaces));
+      there = lines_end s spaces first at 0 refl;
+      numbers = ap (λ (k : ℕ). numbers_at s k at) (zero-mul (suc spaces)) ∙ numbers_none s at 0 refl ∙ no_words words (h ∙ zero-mul (suc spaces));
       left = e;
       within = λ i. i;
     }
@@ -142,8 +138,7 @@ lines_read s (suc count) spaces first at words rest h p e =
     (length-drop w words ∙ omega (arith, all)) (small_drop w p) l.left in
     record {
       next = m.next;
-      found = lines_go_on s spaces first at (suc count) l.value l.next (omega arith) l.found
-          ∙ ap (λ (k : ℕ). lines_at s k spaces (first + 1) l.next) (less_one count) ∙ m.found;
+      there = lines_go_on s spaces first at count (found l.value l.next) l.there ∙ m.there;
       numbers = ap (λ (k : ℕ). numbers_at s k at) all ∙ l.first (count * w)
           ∙ ap (λ (x : List ℕ). one ++ x) m.numbers ∙ take-append-drop w words;
       left = m.left;
@@ -153,22 +148,22 @@ lines_read s (suc count) spaces first at words rest h p e =
 -- a section
 record SectionRead (s : List ℕ) (spaces first at count : ℕ) (words rest : List ℕ) : Type 0 where
   pub start : ℕ
-  pub next : ℕ
-  pub found : section_at s spaces first at ≡ Lines count start next
+  pub end : ℕ
+  pub there : section_at s spaces first at ≡ Ok (record { count = count; start = start; end = end })
   pub numbers : numbers_at s (count * suc spaces) start ≡ words
-  pub left : drop next s ≡ rest
-  pub within : next ≤ length s
+  pub left : drop end s ≡ rest
+  pub within : end ≤ length s
 
 section_reads : (s : List ℕ) (spaces first at count : ℕ) (words rest : List ℕ) → count ≤ 4294967295 → length words ≡ count * suc spaces
     → Small words → drop at s ≡ (line1 count ++ lines_text count (suc spaces) words) ++ rest → SectionRead s spaces first at count words rest
-unfolding line1
+unfolding line1 section_at
 section_reads s spaces first at count words rest c h p e =
     let f = field_reads s 10 at count (lines_text count (suc spaces) words ++ rest) c (omega arith) lf_no_digit (e ∙ simp append_assoc) in
     let l = lines_read s count spaces (first + 1) f.next words rest h p f.left in
     record {
       start = f.next;
-      next = l.next;
-      found = section_counted s spaces first at count f.next (At l.next) (line_ends s at ∙ f.found) l.found;
+      end = l.next;
+      there = simp (line_ends s at 0 refl ∙ f.there, l.there);
       numbers = l.numbers;
       left = l.left;
       within = l.within f.within;
@@ -176,21 +171,26 @@ section_reads s spaces first at count words rest c h p e =
 
 -- A whole script: nothing is left behind it.
 pub record ScriptRead (s : List ℕ) (admissions : ℕ) (words : List ℕ) (steps : ℕ) (others : List ℕ) : Type 0 where
-  pub at : ℕ
-  pub start : ℕ
-  pub found : parse s ≡ Script admissions at steps start
-  pub admission_words : numbers_at s (2 * admissions) at ≡ words
-  pub step_words : numbers_at s (5 * steps) start ≡ others
+  pub script : Script
+  pub there : parse s ≡ Ok script
+  pub admissions_counted : script.admissions.count ≡ admissions
+  pub steps_counted : script.steps.count ≡ steps
+  pub admission_words : numbers_at s (2 * admissions) script.admissions.start ≡ words
+  pub step_words : numbers_at s (5 * steps) script.steps.start ≡ others
 
 both_read : (s : List ℕ) (m : ℕ) (words : List ℕ) (k : ℕ) (others rest : List ℕ) → (a : SectionRead s 1 1 0 m words rest)
-    → SectionRead s 4 (m + 2) a.next k others [] → ScriptRead s m words k others
+    → SectionRead s 4 (m + 2) a.end k others [] → ScriptRead s m words k others
+unfolding parse
 both_read s m words k others rest a b =
-    let end : b.next ≡ length s = omega (arith, b.within, ap length b.left, length-drop b.next s) in
+    let ends : b.end ≡ length s = omega (arith, b.within, ap length b.left, length-drop b.end s) in
     record {
-      at = a.start;
-      start = b.start;
-      found = parse_by s (Lines m a.start a.next) a.found ∙ ap (script_of s m a.start) b.found
-          ∙ script_ends s m a.start k b.start b.next end;
+      script = record {
+        admissions = record { count = m; start = a.start; end = a.end };
+        steps = record { count = k; start = b.start; end = b.end };
+      };
+      there = simp (a.there, b.there, eq-eqb b.end (length s) ends);
+      admissions_counted = refl;
+      steps_counted = refl;
       admission_words = rw (mul_comm 2 m) a.numbers;
       step_words = rw (mul_comm 5 k) b.numbers;
     }
@@ -203,5 +203,5 @@ script_reads m words k others N =
     let steps : List ℕ = line1 k ++ lines_text k 5 others in
     let a = section_reads s 1 1 0 m words steps N.few_admissions (omega (arith, N.two_each)) N.small_admissions refl in
     both_read s m words k others steps a
-    (section_reads s 4 (m + 2) a.next k others [] N.few_steps (omega (arith, N.five_each)) N.small_steps
+    (section_reads s 4 (m + 2) a.end k others [] N.few_steps (omega (arith, N.five_each)) N.small_steps
     (a.left ∙ sym (append-nil steps)))

@@ -11,8 +11,9 @@ use lib.ListN.{length, get_or, drop, length-append, get_or-append}
 use lib.Seq.{get_or-drop, drop-drop}
 use Rattle.model.specs.Choice.{◌or◌}
 use Rattle.model.proofs.Choice.{clash, and_no, order}
-use Rattle.script.specs.declared.Found.TheVariants.{Number}
-use Rattle.script.specs.Numbers.{is_digit, digits, value_from, proper, number_at}
+use Rattle.std.specs.Prelude.{Some}
+use Rattle.script.specs.declared.Found.{Found}
+use Rattle.script.specs.Numbers.{is_digit, digits, value_from, proper, found, number_at}
 use Rattle.script.specs.Printing.{decimal}
 use Rattle.script.proofs.Numbers.{digit_low, digit_high, digits_front, digits_stop, digits_empty, some_digits, picked}
 use Rattle.script.proofs.Pages.{decimal_small, decimal_more}
@@ -85,17 +86,18 @@ first_digit [] h = absurd (omega (arith, ap length digits_empty))
 first_digit (b ∷ t) h = first_by b t (is_digit b) refl h
 
 -- where a number is found, its decimal form stands
-pub number_stands : (s : List ℕ) (at v next : ℕ) → number_at s at ≡ Number v next → drop at s ≡ decimal v ++ drop next s
+pub number_stands : (s : List ℕ) (at : ℕ) (n : Found) → number_at s at ≡ Some n → drop at s ≡ decimal n.value ++ drop n.end s
 unfolding number_at
-number_stands s at v next e =
+number_stands s at n e =
     let ds = digits (drop at s) in
-    let p = picked (proper (get_or s at 0) (length ds) (value_from 0 ds)) (value_from 0 ds) (at + length ds) v next e in
+    let p = picked (proper (get_or s at 0) (length ds) (value_from 0 ds)) (found (value_from 0 ds) (at + length ds)) n e in
     let some : 0 < length ds = some_digits (get_or s at 0) (length ds) (value_from 0 ds) p.0 in
     let first : get_or s at 0 ≡ get_or ds 0 0 =
     ap (λ (n : ℕ). get_or s n 0) (omega arith) ∙ sym (get_or-drop at s 0 0) ∙ first_digit (drop at s) some in
-    let form : ds ≡ decimal v = proper_decimal (get_or s at 0) (front_digits (drop at s)) first p.0 ∙ ap decimal p.1.0 in
+    let form : ds ≡ decimal n.value =
+    proper_decimal (get_or s at 0) (front_digits (drop at s)) first p.0 ∙ ap (λ (x : Found). decimal x.value) p.1 in
     digits_split (drop at s) ∙ ap (λ (l : List ℕ). l ++ drop (length ds) (drop at s)) form
-    ∙ ap (λ (l : List ℕ). decimal v ++ l) (drop-drop (length ds) at s ∙ ap (λ (n : ℕ). drop n s) p.1.1)
+    ∙ ap (λ (l : List ℕ). decimal n.value ++ l) (drop-drop (length ds) at s ∙ ap (λ (x : Found). drop x.end s) p.1)
 
 -- what the decimal form of a number is: digits that write it, the first no zero unless the number is
 record Form (n : ℕ) (l : List ℕ) : Type 0 where
@@ -168,7 +170,7 @@ decimal_proper (suc n) h = form_proper (suc n) (decimal (suc n)) h (omega arith)
 
 -- where a decimal form stands, up to a byte that is no digit, the number is found
 pub number_reads : (s : List ℕ) (at n mark : ℕ) (rest : List ℕ) → n ≤ 4294967295 → is_digit mark ≡ false
-    → drop at s ≡ decimal n ++ (mark ∷ rest) → number_at s at ≡ Number n (at + length (decimal n))
+    → drop at s ≡ decimal n ++ (mark ∷ rest) → number_at s at ≡ Some (found n (at + length (decimal n)))
 unfolding number_at
 number_reads s at n mark rest h m e =
     let f = form_in n n (omega arith) in

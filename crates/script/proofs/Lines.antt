@@ -1,66 +1,87 @@
 -- Laws of fields, lines and sections: what each test of the code makes of them.
 use mathlib.Core.Path.{◌≡◌, refl}
 use mathlib.Core.List.{List, [], ◌∷◌}
-use Prim.Native.Nat.{ℕ, zero, suc, ◌+◌, ◌-◌, ◌≤◌, ◌<◌}
+use Prim.Native.Nat.{ℕ, suc, ◌+◌, ◌-◌, ◌≤◌, ◌<◌}
 use native.Mathlib.Omega.{arith}
 use borrow.Author.Tests.{eq-eqb, ne_eqb}
 use lib.ListN.{length, get_or}
 use lib.Seq.{sets, set_out}
-use Rattle.script.specs.declared.Found.TheVariants.{Number, Nothing}
-use Rattle.script.specs.declared.Reached.{Reached}
-use Rattle.script.specs.declared.Reached.TheVariants.{Wrong, At}
-use Rattle.script.specs.declared.Part.{Part}
-use Rattle.script.specs.declared.Part.TheVariants.{WrongLine, Lines}
-use Rattle.script.specs.declared.Parsed.TheVariants.{Bad, Script}
-use Rattle.script.specs.Numbers.{number_at}
-use Rattle.script.specs.Lines.{field_at, line_at, lines_at, counted, section_at, script_of, steps_behind, parse, numbers_at}
+use Rattle.std.specs.Prelude.{Option, Some, None, Result, Ok, Err, ok_or}
+use Rattle.script.specs.declared.Found.{Found}
+use Rattle.script.specs.declared.BadFile.{BadFile}
+use Rattle.script.specs.Numbers.{found, number_at}
+use Rattle.script.specs.Lines.{◌>>=◌, bad, field_at, line_at, lines_at, numbers_at}
+
+-- what was read and is gone on with was read
+pub then_ok : {A B : Type 0} (r : Result A BadFile) (f : A → Result B BadFile) (y : B) → (r >>= f) ≡ Ok y
+    → (x : A) × (r ≡ Ok x) × (f x ≡ Ok y)
+then_ok (Ok x) f y e = (x, refl, e)
+then_ok (Err d) f y e = let z : ◌≡◌ {A = ℕ} 0 1 = cc in absurd (omega arith)
+
+-- a bad line is the first part's, or that of what is read behind it
+pub then_err : {A B P : Type 0} (r : Result A BadFile) (f : A → Result B BadFile) (d : BadFile) → (r >>= f) ≡ Err d
+    → (r ≡ Err d → P) → ((x : A) → r ≡ Ok x → f x ≡ Err d → P) → P
+then_err (Ok x) f d e p q = q x refl e
+then_err (Err k) f d e p q = p cc
+
+pub ok_of : {A : Type 0} (o : Option A) (d : BadFile) (x : A) → ok_or o d ≡ Ok x → o ≡ Some x
+ok_of None d x e = let z : ◌≡◌ {A = ℕ} 0 1 = cc in absurd (omega arith)
+ok_of (Some y) d x e = cc
+
+pub err_of : {A : Type 0} (o : Option A) (d k : BadFile) → ok_or o d ≡ Err k → d ≡ k
+err_of None d k e = cc
+err_of (Some y) d k e = let z : ◌≡◌ {A = ℕ} 0 1 = cc in absurd (omega arith)
 
 module _ (s : List ℕ) (mark at : ℕ) where
-  pub field_missing : number_at s at ≡ Nothing → field_at s mark at ≡ Nothing
+  pub field_missing : number_at s at ≡ None → field_at s mark at ≡ None
   unfolding field_at
   field_missing e = simp e
 
-  pub field_marked : (v next : ℕ) → number_at s at ≡ Number v next → get_or s next 0 ≡ mark → field_at s mark at ≡ Number v (next + 1)
+  pub field_marked : (n : Found) → number_at s at ≡ Some n → get_or s n.end 0 ≡ mark → field_at s mark at ≡ Some (found n.value (n.end + 1))
   unfolding field_at
-  field_marked v next e m = simp (e, eq-eqb (get_or s next 0) mark m)
+  field_marked n e m = simp (e, eq-eqb (get_or s n.end 0) mark m)
 
-  pub field_unmarked : (v next : ℕ) → number_at s at ≡ Number v next → (get_or s next 0 ≡ mark → ⊥) → field_at s mark at ≡ Nothing
+  pub field_unmarked : (n : Found) → number_at s at ≡ Some n → (get_or s n.end 0 ≡ mark → ⊥) → field_at s mark at ≡ None
   unfolding field_at
-  field_unmarked v next e m = simp (e, ne_eqb (get_or s next 0) mark m)
+  field_unmarked n e m = simp (e, ne_eqb (get_or s n.end 0) mark m)
 
-pub less_one : (n : ℕ) → suc n - 1 ≡ n
-less_one n = omega arith
+-- one of those that are left at turn i of a count
+pub one_left : (i count : ℕ) → i < count → count - i ≡ suc (count - (i + 1))
+one_left i count h = omega arith
 
 module _ (s : List ℕ) (at : ℕ) where
-  pub line_ends : line_at s 0 at ≡ field_at s 10 at
+  pub line_ends : (k : ℕ) → k ≡ 0 → line_at s k at ≡ field_at s 10 at
   unfolding line_at
-  line_ends = refl
+  line_ends k h = rw h refl
 
-  pub line_goes_on : (left v next : ℕ) → 0 < left → field_at s 32 at ≡ Number v next → line_at s left at ≡ line_at s (left - 1) next
+  pub line_goes_on : (k : ℕ) (n : Found) → field_at s 32 at ≡ Some n → line_at s (suc k) at ≡ line_at s k n.end
   unfolding line_at
-  line_goes_on zero v next h e = absurd (omega arith)
-  line_goes_on (suc n) v next h e = rw (less_one n, e, line_at)
+  line_goes_on k n e = rw (e, line_at)
 
-  pub line_breaks : (left : ℕ) → 0 < left → field_at s 32 at ≡ Nothing → line_at s left at ≡ Nothing
+  pub line_breaks : (k : ℕ) → field_at s 32 at ≡ None → line_at s (suc k) at ≡ None
   unfolding line_at
-  line_breaks zero h e = absurd (omega arith)
-  line_breaks (suc n) h e = rw (e, line_at)
+  line_breaks k e = rw (e, line_at)
 
 module _ (s : List ℕ) (spaces first at : ℕ) where
-  pub lines_end : lines_at s 0 spaces first at ≡ At at
+  pub lines_end : (k : ℕ) → k ≡ 0 → lines_at s k spaces first at ≡ Ok at
   unfolding lines_at
-  lines_end = refl
+  lines_end k h = rw h refl
 
-  pub lines_go_on : (left v next : ℕ) → 0 < left → line_at s spaces at ≡ Number v next
-      → lines_at s left spaces first at ≡ lines_at s (left - 1) spaces (first + 1) next
+  pub lines_go_on : (k : ℕ) (n : Found) → line_at s spaces at ≡ Some n
+      → lines_at s (suc k) spaces first at ≡ lines_at s k spaces (first + 1) n.end
   unfolding lines_at
-  lines_go_on zero v next h e = absurd (omega arith)
-  lines_go_on (suc n) v next h e = rw (less_one n, e, lines_at)
+  lines_go_on k n e = rw (e, lines_at)
 
-  pub lines_break : (left : ℕ) → 0 < left → line_at s spaces at ≡ Nothing → lines_at s left spaces first at ≡ Wrong first
+  pub lines_break : (k : ℕ) → line_at s spaces at ≡ None → lines_at s (suc k) spaces first at ≡ Err (bad first)
   unfolding lines_at
-  lines_break zero h e = absurd (omega arith)
-  lines_break (suc n) h e = rw (e, lines_at)
+  lines_break k e = rw (e, lines_at)
+
+-- at turn i of a count
+pub lines_turn : (s : List ℕ) (spaces first at i count : ℕ) (n : Found) → i < count → line_at s spaces at ≡ Some n
+    → lines_at s (count - i) spaces (first + i) at ≡ lines_at s (count - (i + 1)) spaces (first + (i + 1)) n.end
+lines_turn s spaces first at i count n h e =
+    let k : first + i + 1 ≡ first + (i + 1) = omega arith in
+    rw (one_left i count h, lines_go_on s spaces (first + i) at (count - (i + 1)) n e, k)
 
 -- Numbers laid out as words: no room left, none left, one more.
 pub sets_full : (l : List ℕ) (i : ℕ) (vs : List ℕ) → length l ≤ i → sets l i vs ≡ l
@@ -68,39 +89,14 @@ sets_full l i [] h = refl
 sets_full l i (v ∷ vs) h = rw (set_out l i v h) (sets_full l (suc i) vs (omega arith))
 
 module _ (s : List ℕ) (at : ℕ) where
-  pub numbers_none : numbers_at s 0 at ≡ []
+  pub numbers_none : (k : ℕ) → k ≡ 0 → numbers_at s k at ≡ []
   unfolding numbers_at
-  numbers_none = refl
+  numbers_none k h = rw h refl
 
-  pub numbers_stop : (left : ℕ) → 0 < left → number_at s at ≡ Nothing → numbers_at s left at ≡ []
+  pub numbers_stop : (k : ℕ) → number_at s at ≡ None → numbers_at s (suc k) at ≡ []
   unfolding numbers_at
-  numbers_stop zero h e = absurd (omega arith)
-  numbers_stop (suc n) h e = rw (e, numbers_at)
+  numbers_stop k e = rw (e, numbers_at)
 
-  pub numbers_go_on : (left v next : ℕ) → 0 < left → number_at s at ≡ Number v next
-      → numbers_at s left at ≡ v ∷ numbers_at s (left - 1) (next + 1)
+  pub numbers_go_on : (k : ℕ) (n : Found) → number_at s at ≡ Some n → numbers_at s (suc k) at ≡ n.value ∷ numbers_at s k (n.end + 1)
   unfolding numbers_at
-  numbers_go_on zero v next h e = absurd (omega arith)
-  numbers_go_on (suc n) v next h e = rw (less_one n, e, numbers_at)
-
--- A section has no count, or its lines decide; the first section decides on the whole, and the end of the text at last.
-module _ (s : List ℕ) (spaces first at : ℕ) where
-  pub section_uncounted : line_at s 0 at ≡ Nothing → section_at s spaces first at ≡ WrongLine first
-  unfolding section_at
-  section_uncounted e = simp e
-
-  pub section_counted : (count start : ℕ) (r : Reached) → line_at s 0 at ≡ Number count start → lines_at s count spaces (first + 1) start ≡ r
-      → section_at s spaces first at ≡ counted count start r
-  unfolding section_at
-  section_counted count start r e f = simp (e, f)
-
-pub parse_by : (s : List ℕ) (x : Part) → section_at s 1 1 0 ≡ x → parse s ≡ steps_behind s x
-unfolding parse
-parse_by s x e = simp e
-
-module _ (s : List ℕ) (admissions start steps first end : ℕ) where
-  pub script_ends : end ≡ length s → script_of s admissions start (Lines steps first end) ≡ Script admissions start steps first
-  script_ends e = simp (eq-eqb end (length s) e)
-
-  pub script_goes_on : (end ≡ length s → ⊥) → script_of s admissions start (Lines steps first end) ≡ Bad (admissions + steps + 3)
-  script_goes_on e = simp (ne_eqb end (length s) e)
+  numbers_go_on k n e = rw (e, numbers_at)

@@ -8,11 +8,12 @@ use lib.ListN.{length, get_or, drop, get_or-append}
 use lib.Seq.{sets, sets-eq}
 use Rattle.model.specs.State.{State, Outcome, number, value}
 use Rattle.model.specs.Steps.{Step, one_by_one}
-use Rattle.script.specs.declared.Parsed.{Parsed}
-use Rattle.script.specs.declared.Parsed.TheVariants.{Bad, Script}
+use Rattle.std.specs.Prelude.{Result, Ok, Err}
+use Rattle.script.specs.declared.Script.{Script}
+use Rattle.script.specs.declared.BadFile.{BadFile}
 use Rattle.script.specs.Lines.{parse}
 use Rattle.script.specs.Printing.{line1, line2, bad_file, too_long, Page, written}
-use Rattle.script.specs.Replay.{answer_lines, five_totals, printed, admissions_run, steps_run, replayed, replay_text}
+use Rattle.script.specs.Replay.{answer_lines, five_totals, printed, first_run, second_run, replayed, replay_text}
 use Rattle.script.proofs.Pages.{written_append}
 
 -- "at most 65,536 bytes (else prints `too long`)"
@@ -20,19 +21,19 @@ pub replay_too_long : (s : List ℕ) → 65536 < length s → replay_text s ≡ 
 unfolding replay_text
 replay_too_long s h = simp (lt-ltb 65536 (length s) h)
 
-pub replay_by : (s : List ℕ) (x : Parsed) → length s ≤ 65536 → parse s ≡ x → replay_text s ≡ replayed s x
+pub replay_by : (s : List ℕ) (x : Result Script BadFile) → length s ≤ 65536 → parse s ≡ x → replay_text s ≡ replayed s x
 unfolding replay_text
 replay_by s x h e = simp (le-ltb 65536 (length s) h, e)
 
 -- "prints only `bad file N`"
-pub replay_bad : (s : List ℕ) (n : ℕ) → length s ≤ 65536 → parse s ≡ Bad n → replay_text s ≡ bad_file n
+pub replay_bad : (s : List ℕ) (d : BadFile) → length s ≤ 65536 → parse s ≡ Err d → replay_text s ≡ bad_file d.line
 unfolding replayed
-replay_bad s n h e = replay_by s (Bad n) h e
+replay_bad s d h e = replay_by s (Err d) h e
 
-pub replay_script : (s : List ℕ) (m at k start : ℕ) → length s ≤ 65536 → parse s ≡ Script m at k start
-    → replay_text s ≡ printed m k (admissions_run s m at) (steps_run s k start (admissions_run s m at))
+pub replay_script : (s : List ℕ) (k : Script) → length s ≤ 65536 → parse s ≡ Ok k
+    → replay_text s ≡ printed k.admissions.count k.steps.count (first_run s k) (second_run s k)
 unfolding replayed
-replay_script s m at k start h e = replay_by s (Script m at k start) h e
+replay_script s k h e = replay_by s (Ok k) h e
 
 -- a step's line, and those of the steps behind it
 pub answers_more : (p : Page) (f : State → Step → Outcome) (s : State) (t : Step) (l : List Step)

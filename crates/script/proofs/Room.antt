@@ -14,11 +14,12 @@ use Rattle.model.specs.Arena.{fill}
 use Rattle.model.specs.State.{State, fresh}
 use Rattle.model.specs.Steps.{act, Ran, steps_from}
 use Rattle.model.proofs.Calls.{steps_length, slots_length}
-use Rattle.script.specs.declared.Parsed.{Parsed}
-use Rattle.script.specs.declared.Parsed.TheVariants.{Bad, Script}
+use Rattle.std.specs.Prelude.{Result, Ok, Err}
+use Rattle.script.specs.declared.Script.{Script}
+use Rattle.script.specs.declared.BadFile.{BadFile}
 use Rattle.script.specs.Lines.{parse, numbers_at}
 use Rattle.script.specs.Replay.{admissions_from, answer_lines, all_swaps, five_totals, total_lines, printed, admissions_run, steps_run}
-use Rattle.script.specs.Replay.{replayed, replay_text}
+use Rattle.script.specs.Replay.{first_run, second_run, replayed, replay_text}
 use Rattle.script.specs.Sizes.{Short, none, more, Totals, Sized}
 use Rattle.script.specs.Printing.{decimal, line1, line2, page, written}
 use Rattle.script.proofs.Accepted.{Fits, script_fits, bad_low}
@@ -75,16 +76,17 @@ totals_short s t =
       line1_short 3 (fill s.control.map) (omega (arith, t.filled)),
     ))
 
-printed_short : (s : List ℕ) (m at k start : ℕ) (first then : Ran) → Fits s m at k start → length s ≤ 65536
-    → length first.slots ≡ 2 * m → length then.slots ≡ 2 * k → Sized first then → length (printed m k first then) ≤ 229440
+printed_short : (s : List ℕ) (k : Script) (first then : Ran) → Fits s k → length s ≤ 65536
+    → length first.slots ≡ 2 * k.admissions.count → length then.slots ≡ 2 * k.steps.count → Sized first then
+    → length (printed k.admissions.count k.steps.count first then) ≤ 229440
 unfolding printed
-printed_short s m at k start first then fits h lm lk z =
+printed_short s k first then fits h lm lk z =
     simp length-append
     (omega (
       arith,
       fits.bytes,
-      line1_short 9 m (omega (arith, fits.numbers.few_admissions)),
-      line1_short 9 k (omega (arith, fits.numbers.few_steps)),
+      line1_short 9 k.admissions.count (omega (arith, fits.numbers.few_admissions)),
+      line1_short 9 k.steps.count (omega (arith, fits.numbers.few_steps)),
       answers_short z.admitted,
       answers_short z.stepped,
       totals_short then.next z.totals,
@@ -104,14 +106,14 @@ steps_slots s k at first =
 
 -- a script's runs are sized
 abbrev pub SizedRuns : List ℕ → Type 0
-SizedRuns s = (m at k start : ℕ) → parse s ≡ Script m at k start → Sized (admissions_run s m at) (steps_run s k start (admissions_run s m at))
+SizedRuns s = (k : Script) → parse s ≡ Ok k → Sized (first_run s k) (second_run s k)
 
-replayed_short : (s : List ℕ) (x : Parsed) → parse s ≡ x → length s ≤ 65536 → SizedRuns s → length (replayed s x) ≤ 229440
+replayed_short : (s : List ℕ) (x : Result Script BadFile) → parse s ≡ x → length s ≤ 65536 → SizedRuns s → length (replayed s x) ≤ 229440
 unfolding replayed
-replayed_short s (Bad n) e h z = omega (arith, line1_short 9 n (bad_low s n e))
-replayed_short s (Script m at k start) e h z =
-    printed_short s m at k start (admissions_run s m at) (steps_run s k start (admissions_run s m at)) (script_fits s m at k start e) h
-    (admissions_slots s m at) (steps_slots s k start (admissions_run s m at)) (z m at k start e)
+replayed_short s (Err d) e h z = omega (arith, line1_short 9 d.line (bad_low s d e))
+replayed_short s (Ok k) e h z =
+    printed_short s k (first_run s k) (second_run s k) (script_fits s k e) h
+    (admissions_slots s k.admissions.count k.admissions.start) (steps_slots s k.steps.count k.steps.start (first_run s k)) (z k e)
 
 pub replay_short : (s : List ℕ) → SizedRuns s → length (replay_text s) ≤ 229440
 unfolding replay_text

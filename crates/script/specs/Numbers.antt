@@ -1,9 +1,8 @@
 -- 01, "Replay": "Decimal numbers to 4294967295, no needless leading zero". A text is a list of bytes, a place a number from 0.
-use Rattle.std.specs.Prelude.{Bool, true, false, not, List, [], ◌∷◌, ℕ, ◌+◌, ◌-◌, ◌*◌, eqb, ltb, leb, length, get_or, drop}
+use Rattle.std.specs.Prelude.{Bool, true, false, not, List, [], ◌∷◌, ℕ, ◌+◌, ◌-◌, ◌*◌, eqb, ltb, leb, length, get_or, drop, Option, Some, None}
 use Rattle.model.specs.Choice.{pick, ◌and◌, ◌or◌}
 use Rattle.script.specs.declared.Scanned.{Scanned}
 use Rattle.script.specs.declared.Found.{Found}
-use Rattle.script.specs.declared.Found.TheVariants.{Number, Nothing}
 
 -- the bytes `0` to `9`
 unfoldable pub is_digit : ℕ → Bool
@@ -19,20 +18,31 @@ unfoldable pub value_from : ℕ → List ℕ → ℕ
 value_from v [] = v
 value_from v (b ∷ l) = value_from (v * 10 + (b - 48)) l
 
--- "to 4294967295, no needless leading zero": of digits their first, how many they are, what they write
+-- "no needless leading zero": of digits their first, and how many they are
+abbrev pub plain : ℕ → ℕ → Bool
+plain first count = not (eqb count 0) and (eqb count 1 or not (eqb first 48))
+
+-- "to 4294967295" besides: what they write
 unfoldable pub proper : ℕ → ℕ → ℕ → Bool
-proper first count value = not (eqb count 0) and not (ltb 4294967295 value) and (eqb count 1 or not (eqb first 48))
+proper first count value = not (ltb 4294967295 value) and plain first count
+
+abbrev pub found : ℕ → ℕ → Found
+found value end = record { value = value; end = end }
 
 -- the number at a place of a text, with the place behind it
-abbrev pub number_of : ℕ → ℕ → List ℕ → Found
-number_of at first ds = pick (proper first (length ds) (value_from 0 ds)) (Number (value_from 0 ds) (at + length ds)) Nothing
+abbrev pub number_of : ℕ → ℕ → List ℕ → Option Found
+number_of at first ds = pick (proper first (length ds) (value_from 0 ds)) (Some (found (value_from 0 ds) (at + length ds))) None
 
-unfoldable pub number_at : List ℕ → ℕ → Found
+unfoldable pub number_at : List ℕ → ℕ → Option Found
 number_at s at = number_of at (get_or s at 0) (digits (drop at s))
 
--- what a scan finds from a place on, behind digits that write v: all that is above 4294967295 as 4294967296
-unfoldable pub capped : ℕ → ℕ
-capped v = pick (ltb 4294967295 v) 4294967296 v
+-- what a scan finds at the front of a text: no value above 4294967295, and one digit more of a value
+unfoldable pub capped : ℕ → Option ℕ
+capped v = pick (ltb 4294967295 v) None (Some v)
 
-unfoldable pub scanned : List ℕ → ℕ → ℕ → Scanned
-scanned s v at = record { value = capped (value_from v (digits (drop at s))); end = at + length (digits (drop at s)) }
+abbrev pub more : Option ℕ → ℕ → Option ℕ
+more None b = None
+more (Some v) b = capped (v * 10 + (b - 48))
+
+unfoldable pub scanned : List ℕ → Scanned
+scanned t = record { value = capped (value_from 0 (digits t)); count = length (digits t) }

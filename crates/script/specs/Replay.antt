@@ -1,13 +1,13 @@
 -- 01, "Replay": the whole program, the bytes that it reads to the bytes that it prints.
-use Rattle.std.specs.Prelude.{List, [], ◌∷◌, ◌++◌, ℕ, zero, suc, ◌+◌, ◌*◌, ltb, length, get_or}
+use Rattle.std.specs.Prelude.{List, [], ◌∷◌, ◌++◌, ℕ, zero, suc, ◌+◌, ◌*◌, ltb, length, get_or, Result, Ok, Err}
 use Rattle.model.specs.declared.Row.{Row}
 use Rattle.model.specs.Choice.{pick, total}
 use Rattle.model.specs.Arena.{fill}
 use Rattle.model.specs.Rows.{swaps_of}
 use Rattle.model.specs.State.{State, fresh}
 use Rattle.model.specs.Steps.{Step, step, act, Ran, one_by_one, steps_from}
-use Rattle.script.specs.declared.Parsed.{Parsed}
-use Rattle.script.specs.declared.Parsed.TheVariants.{Bad, Script}
+use Rattle.script.specs.declared.Script.{Script}
+use Rattle.script.specs.declared.BadFile.{BadFile}
 use Rattle.script.specs.Lines.{parse, numbers_at}
 use Rattle.script.specs.Printing.{line1, line2, bad_file, too_long}
 
@@ -50,11 +50,17 @@ admissions_run s count at = one_by_one act fresh (admissions_from (numbers_at s 
 unfoldable pub steps_run : List ℕ → ℕ → ℕ → Ran → Ran
 steps_run s count at first = one_by_one act first.next (steps_from (numbers_at s (5 * count) at) 0 count)
 
+-- the two runs of a script
+abbrev pub first_run : List ℕ → Script → Ran
+first_run s k = admissions_run s k.admissions.count k.admissions.start
+
+abbrev pub second_run : List ℕ → Script → Ran
+second_run s k = steps_run s k.steps.count k.steps.start (first_run s k)
+
 -- "prints only `bad file N`, N its line from 1; nothing is run"
-unfoldable pub replayed : List ℕ → Parsed → List ℕ
-replayed s (Bad n) = bad_file n
-replayed s (Script admissions at steps start) =
-    printed admissions steps (admissions_run s admissions at) (steps_run s steps start (admissions_run s admissions at))
+unfoldable pub replayed : List ℕ → Result Script BadFile → List ℕ
+replayed s (Err e) = bad_file e.line
+replayed s (Ok k) = printed k.admissions.count k.steps.count (first_run s k) (second_run s k)
 
 -- "at most 65,536 bytes (else prints `too long`)"
 unfoldable pub replay_text : List ℕ → List ℕ

@@ -9,37 +9,37 @@ const SPACE: u8 = 32;
 
 const LF: u8 = 10;
 
-// What digits write, 4294967296 for all above 4294967295, and the place behind them.
+// What digits write, if it is at most 4294967295, and how many they are.
 #[derive(Clone, Copy)]
 pub struct Scanned {
-    pub value: u64,
-    pub end: usize,
+    pub value: Option<u32>,
+    pub count: usize,
 }
 
 // A number and the place behind it.
 #[derive(Clone, Copy)]
-pub enum Found {
-    Nothing,
-    Number(u32, usize),
-}
-
-// The place behind some lines, or the number of the line that is wrong.
-#[derive(Clone, Copy)]
-pub enum Reached {
-    Wrong(usize),
-    At(usize),
+pub struct Found {
+    pub value: u32,
+    pub end: usize,
 }
 
 // A section: its count, the place of its first line, the place behind it.
 #[derive(Clone, Copy)]
-pub enum Part {
-    WrongLine(usize),
-    Lines(u32, usize, usize),
+pub struct Section {
+    pub count: u32,
+    pub start: usize,
+    pub end: usize,
 }
 
-// A script: how many admissions and where they start, how many steps and where they start.
+// "Two sections, each after its count"
 #[derive(Clone, Copy)]
-pub enum Parsed {
-    Bad(usize),
-    Script(u32, usize, u32, usize),
+pub struct Script {
+    pub admissions: Section,
+    pub steps: Section,
+}
+
+// A text that is no script: the number of its first line that is wrong, missing or extra.
+#[derive(Clone, Copy)]
+pub struct BadFile {
+    pub line: usize,
 }

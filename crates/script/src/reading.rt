@@ -1,181 +1,137 @@
 // Reading: the text to a script, or to the number of its first wrong line.
-ghost use Rattle.std.specs.Prelude.{◌≡◌, true, ◌+◌, ◌-◌, ◌*◌, ◌≤◌, ◌<◌, get_or};
+ghost use Rattle.std.specs.Prelude.{◌≡◌, true, ◌+◌, ◌≤◌, ◌<◌, length, get_or};
 ghost use Rattle.std.proofs.lemmas.List.Edits.{sets};
-ghost use Rattle.script.specs.Numbers.{is_digit, capped, scanned, proper, number_at};
-ghost use Rattle.script.specs.Lines.{field_at, line_at, lines_at, section_at, script_of, parse, numbers_at};
+ghost use Rattle.script.specs.Numbers.{is_digit, more, scanned, plain, number_at};
+ghost use Rattle.script.specs.Lines.{field_at, line_at, lines_at, section_at, parse, numbers_at};
 
-use super::{Found, LF, Parsed, Part, Reached, SPACE, Scanned};
-
-const LARGEST: u64 = 4294967295;
+use super::{BadFile, Found, LF, SPACE, Scanned, Script, Section};
 
 // The byte at a place; 0 behind the end of the text.
 fn byte_at(s: &[u8], at: usize) -> u8
     ensures { result ≡ get_or s.now at 0 }
 {
-    if at < s.len() { s[at] } else { 0 }
-}
-
-// The bytes `0` to `9`.
-fn is_digit(b: u8) -> bool
-    ensures { result ≡ is_digit b }
-{
-    48 <= b && b <= 57
+    s.get(at).copied().unwrap_or(0)
 }
 
 // One digit more.
-fn more(v: u64, b: u8) -> u64
-    requires { (v ≤ 4294967296) × (is_digit b ≡ true) }
-    ensures { result ≡ capped (v * 10 + (b - 48)) }
+fn more(value: Option<u32>, digit: u8) -> Option<u32>
+    requires { is_digit digit ≡ true }
+    ensures { result ≡ more value digit }
 {
-    let x = v * 10 + ((b - 48) as u64);
-    if LARGEST < x { LARGEST + 1 } else { x }
+    value?.checked_mul(10)?.checked_add(u32::from(digit - b'0'))
 }
 
-// The digits from a place on.
-fn scan(s: &[u8], at: usize) -> Scanned
-    ensures { result ≡ scanned s.now 0 at }
+// The digits at the front of a text.
+fn scan(text: &[u8]) -> Scanned
+    ensures { result ≡ scanned text.now }
 {
-    let mut v: u64 = 0;
-    let mut i = at;
-    while is_digit(byte_at(s, i)) {
-        v = more(v, byte_at(s, i));
-        i = i + 1;
+    let mut value = Some(0);
+    let mut count = 0;
+    for b in text {
+        if !b.is_ascii_digit() {
+            break;
+        }
+        value = more(value, *b);
+        count += 1;
     }
-    Scanned { value: v, end: i }
+    Scanned { value, count }
 }
 
-// "Decimal numbers to 4294967295, no needless leading zero"
-fn is_proper(first: u8, count: usize, value: u64) -> bool
-    ensures { result ≡ proper first count value }
+// "no needless leading zero"
+fn is_plain(first: u8, count: usize) -> bool
+    ensures { result ≡ plain first count }
 {
-    if count == 0 {
-        return false;
-    }
-    if LARGEST < value {
-        return false;
-    }
-    count == 1 || first != 48
+    count == 1 || first != b'0' && count != 0
 }
 
 // The number at a place.
-fn number(s: &[u8], at: usize) -> Found
+fn number(s: &[u8], at: usize) -> Option<Found>
     ensures { result ≡ number_at s.now at }
 {
-    let d = scan(s, at);
-    if is_proper(byte_at(s, at), d.end - at, d.value) {
-        Found::Number(d.value as u32, d.end)
-    } else {
-        Found::Nothing
-    }
+    let digits = scan(s.get(at..)?);
+    let value = digits.value?;
+    let end = at + digits.count;
+    is_plain(byte_at(s, at), digits.count).then_some(Found { value, end })
 }
 
 // A number with the byte `mark` behind it; not 0, which is what stands behind the end of the text.
-fn field(s: &[u8], at: usize, mark: u8) -> Found
+fn field(s: &[u8], at: usize, mark: u8) -> Option<Found>
     requires { 0 < mark }
     ensures { result ≡ field_at s.now mark at }
 {
-    let Found::Number(v, next) = number(s, at) else {
-        return Found::Nothing;
-    };
-    if byte_at(s, next) == mark {
-        Found::Number(v, next + 1)
-    } else {
-        Found::Nothing
+    let Found { value, end } = number(s, at)?;
+    if byte_at(s, end) != mark {
+        return None;
     }
+    Some(Found {
+        value,
+        end: end + 1,
+    })
 }
 
 // "one space between, each line ended by LF": the last number of the line, and the place behind it.
-fn line(s: &[u8], spaces: u32, at: usize) -> Found
+fn line(s: &[u8], spaces: u32, at: usize) -> Option<Found>
     ensures { result ≡ line_at s.now spaces at }
 {
-    let mut left = spaces;
     let mut place = at;
-    while 0 < left {
-        let Found::Number(_, next) = field(s, place, SPACE) else {
-            return Found::Nothing;
-        };
-        place = next;
-        left = left - 1;
+    for _ in 0..spaces {
+        place = field(s, place, SPACE)?.end;
     }
     field(s, place, LF)
 }
 
-// `count` lines, of which the first has the number `first`, at most 2^33, so that no number of a line wraps.
-fn lines(s: &[u8], count: u32, spaces: u32, first: usize, at: usize) -> Reached
+// `count` lines, of which the first has the number `first`, at most 2^33, so that no number of a line wraps: the place behind them.
+fn lines(s: &[u8], count: u32, spaces: u32, first: usize, at: usize) -> Result<usize, BadFile>
     requires { first ≤ 8589934592 }
     ensures { result ≡ lines_at s.now count spaces first at }
 {
-    let mut left = count;
-    let mut n = first;
     let mut place = at;
-    while 0 < left {
-        let Found::Number(_, next) = line(s, spaces, place) else {
-            return Reached::Wrong(n);
+    for i in 0..count {
+        let bad = BadFile {
+            line: first + i as usize,
         };
-        place = next;
-        n = n + 1;
-        left = left - 1;
+        place = line(s, spaces, place).ok_or(bad)?.end;
     }
-    Reached::At(place)
+    Ok(place)
 }
 
 // "Two sections, each after its count"
-fn section(s: &[u8], spaces: u32, first: usize, at: usize) -> Part
+fn section(s: &[u8], spaces: u32, first: usize, at: usize) -> Result<Section, BadFile>
     requires { first ≤ 8589934591 }
     ensures { result ≡ section_at s.now spaces first at }
 {
-    let Found::Number(count, start) = line(s, 0, at) else {
-        return Part::WrongLine(first);
-    };
-    match lines(s, count, spaces, first + 1, start) {
-        Reached::Wrong(n) => Part::WrongLine(n),
-        Reached::At(next) => Part::Lines(count, start, next),
-    }
-}
-
-// The steps behind the admissions, and nothing behind the steps.
-fn steps_behind(s: &[u8], admissions: u32, start: usize, at: usize) -> Parsed
-    ensures { result ≡ script_of s.now admissions start (section_at s.now 4 (admissions + 2) at) }
-{
-    match section(s, 4, (admissions as usize) + 2, at) {
-        Part::WrongLine(n) => Parsed::Bad(n),
-        Part::Lines(steps, first, end) => {
-            if end == s.len() {
-                Parsed::Script(admissions, start, steps, first)
-            } else {
-                Parsed::Bad((admissions as usize) + (steps as usize) + 3)
-            }
-        }
-    }
+    let Found {
+        value: count,
+        end: start,
+    } = line(s, 0, at).ok_or(BadFile { line: first })?;
+    let end = lines(s, count, spaces, first + 1, start)?;
+    Ok(Section { count, start, end })
 }
 
 // The whole text: a script, or its first line that is wrong, missing or extra.
-pub fn parse(s: &[u8]) -> Parsed
+pub fn parse(s: &[u8]) -> Result<Script, BadFile>
     ensures { result ≡ parse s.now }
 {
-    match section(s, 1, 1, 0) {
-        Part::WrongLine(n) => Parsed::Bad(n),
-        Part::Lines(admissions, start, next) => steps_behind(s, admissions, start, next),
+    let admissions = section(s, 1, 1, 0)?;
+    let steps = section(s, 4, admissions.count as usize + 2, admissions.end)?;
+    if steps.end != s.len() {
+        return Err(BadFile {
+            line: admissions.count as usize + steps.count as usize + 3,
+        });
     }
+    Ok(Script { admissions, steps })
 }
 
-// So many numbers from a place on, laid out as words from `to` on; what has no room is left out.
-pub fn numbers(s: &[u8], count: usize, at: usize, out: &mut [u32], to: usize)
-    ensures { out.new ≡ sets out.old to (numbers_at s.now count at) }
+// As many numbers as there are words, from a place on, laid out as words.
+pub fn numbers(s: &[u8], at: usize, words: &mut [u32])
+    ensures { words.new ≡ sets words.old 0 (numbers_at s.now (length words.old) at) }
 {
-    let mut left = count;
     let mut from = at;
-    let mut place = to;
-    while 0 < left {
-        if out.len() <= place {
-            return;
-        }
-        let Found::Number(v, next) = number(s, from) else {
+    for word in words.iter_mut() {
+        let Some(Found { value, end }) = number(s, from) else {
             return;
         };
-        out[place] = v;
-        place = place + 1;
-        from = next + 1;
-        left = left - 1;
+        *word = value;
+        from = end + 1;
     }
 }

@@ -11,20 +11,20 @@ pub section-admitted-requires : goal.section-admitted-requires
 section-admitted-requires c =
     let a = c.args in (
       reached_by_lem fresh_reach (fresh_holds c.blank.result c.fresh-fresh.ensures),
-      omega (arith, c.requires.0, (script_fits a.input.now a.admissions a.first a.steps a.second c.requires.1).bytes),
+      omega (arith, c.requires.0, (script_fits a.input.now a.script c.requires.1).bytes),
     )
 
 pub section-stepped-requires : goal.section-stepped-requires
 section-stepped-requires c =
-    let a = c.args in (
+    let a = c.args in
+    let k = a.script.admissions in (
       reached_after (reached_by_lem fresh_reach (fresh_holds c.blank.result c.fresh-fresh.ensures))
-          (steps_in true (numbers_at a.input.now (2 * a.admissions) a.first) 0 a.admissions) c.section-admitted.ensures,
-      omega (arith, c.requires.0, (script_fits a.input.now a.admissions a.first a.steps a.second c.requires.1).bytes),
+          (steps_in true (numbers_at a.input.now (2 * k.count) k.start) 0 k.count) c.section-admitted.ensures,
+      omega (arith, c.requires.0, (script_fits a.input.now a.script c.requires.1).bytes),
     )
 
 pub returns : goal.returns
 returns c =
-    let a = c.args in
-    performs a.input.now a.admissions a.first a.steps a.second
+    performs c.args.input.now c.args.script
     (fresh_holds c.blank.result c.fresh-fresh.ensures)
     c.section-admitted.ensures c.section-stepped.ensures c.totals.ensures

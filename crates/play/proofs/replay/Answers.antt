@@ -7,11 +7,11 @@ pub returns-then-input-gt-MOST : goal.returns-then-input-gt-MOST
 returns-then-input-gt-MOST c = prints_too_long c.args.input.now _ _ _ c.if-input-gt-MOST.true c.put_too_long.ensures
 
 pub perform-requires : goal.perform-requires
-perform-requires c = (c.if-input-gt-MOST.false, sym c.parse.ensures ∙ c.in-Script.is)
+perform-requires c = (c.if-input-gt-MOST.false, sym c.parse.ensures ∙ c.in-Ok.is)
 
-pub returns-in-Bad : goal.returns-in-Bad
-returns-in-Bad c = prints_bad c.args.input.now _ _ _ c.if-input-gt-MOST.false (sym c.parse.ensures ∙ c.in-Bad.is) c.put_bad_file.ensures
+pub returns-in-Err : goal.returns-in-Err
+returns-in-Err c = prints_bad c.args.input.now _ _ _ c.in-Err.bad c.if-input-gt-MOST.false (sym c.parse.ensures ∙ c.in-Err.is) c.put_bad_file.ensures
 
-pub returns-in-Script : goal.returns-in-Script
-returns-in-Script c =
-    prints_script c.args.input.now _ _ _ c.if-input-gt-MOST.false (sym c.parse.ensures ∙ c.in-Script.is) c.perform.ensures
+pub returns-in-Ok : goal.returns-in-Ok
+returns-in-Ok c =
+    prints_script c.args.input.now _ _ _ c.in-Ok.script c.if-input-gt-MOST.false (sym c.parse.ensures ∙ c.in-Ok.is) c.perform.ensures

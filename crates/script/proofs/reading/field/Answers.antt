@@ -1,21 +1,14 @@
 -- `field`: each way is a law of field_at. A mark is no 0, so it stands within the text.
-use Rattle.std.proofs.Common.{sym, ◌∙◌}
+use Rattle.std.proofs.Common.{arith}
+use Rattle.std.proofs.lemmas.Grind.{common_steps}
 use Rattle.script.proofs.Lines.{field_missing, field_marked, field_unmarked}
 use Rattle.script.proofs.reading.field.Goals as goal
 
-pub returns-in_default : goal.returns-in_default
-returns-in_default c =
-    let a = c.args in
-    sym (field_missing a.s.now a.mark a.at (sym c.number.ensures ∙ c.in_default.is))
+pub returns-in_err-value : goal.returns-in_err-value
+returns-in_err-value c = grind (arith, common_steps, field_missing)
 
 pub returns-then-byte_at-mark : goal.returns-then-byte_at-mark
-returns-then-byte_at-mark c =
-    let a = c.args in
-    sym (field_marked a.s.now a.mark a.at c.in-Number.v c.in-Number.next (sym c.number.ensures ∙ c.in-Number.is)
-    (sym c.byte_at.ensures ∙ c.if-byte_at-mark.true))
+returns-then-byte_at-mark c = grind (arith, common_steps, field_unmarked)
 
-pub returns-else-byte_at-mark : goal.returns-else-byte_at-mark
-returns-else-byte_at-mark c =
-    let a = c.args in
-    sym (field_unmarked a.s.now a.mark a.at c.in-Number.v c.in-Number.next (sym c.number.ensures ∙ c.in-Number.is)
-    (λ e. c.if-byte_at-mark.false (c.byte_at.ensures ∙ e)))
+pub returns : goal.returns
+returns c = grind (arith, common_steps, field_marked)

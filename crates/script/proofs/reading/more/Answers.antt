@@ -1,17 +1,14 @@
--- `more`: ten times 4294967296 and a digit fit 64 bits; the test is that of `capped`.
-use Rattle.std.proofs.Common.{sym, ◌+◌, ◌-◌, ◌*◌}
-use Rattle.script.proofs.Numbers.{digit_low, capped_small, capped_large}
+-- `more`: none stays none; ten times a value and a digit fit 32 bits, or are none.
+use Rattle.std.proofs.Common.{arith}
+use Rattle.std.proofs.lemmas.Grind.{common_steps}
+use Rattle.script.proofs.Numbers.{digit_low, digit_high, capped_small, capped_large}
 use Rattle.script.proofs.reading.more.Goals as goal
 
-pub overflow_sub-x : goal.overflow_sub-x
-overflow_sub-x c = digit_low _ c.requires.1
+pub returns-in_err-checked_mul : goal.returns-in_err-checked_mul
+returns-in_err-checked_mul c = grind (arith, common_steps, capped_large)
 
-pub returns-then-x-gt-LARGEST : goal.returns-then-x-gt-LARGEST
-returns-then-x-gt-LARGEST c =
-    let a = c.args in
-    sym (capped_large (a.v * 10 + (a.b - 48)) c.if-x-gt-LARGEST.true)
+pub overflow_sub-digit : goal.overflow_sub-digit
+overflow_sub-digit c = digit_low c.args.digit c.requires
 
-pub returns-else-x-gt-LARGEST : goal.returns-else-x-gt-LARGEST
-returns-else-x-gt-LARGEST c =
-    let a = c.args in
-    sym (capped_small (a.v * 10 + (a.b - 48)) c.if-x-gt-LARGEST.false)
+pub returns : goal.returns
+returns c = grind (arith, common_steps, digit_low, digit_high, capped_small, capped_large)
