@@ -21,7 +21,7 @@ use Rattle.model.proofs.Calls.{run_wrong_size}
 use Rattle.table.specs.Words.{table_words, rows_read}
 use Rattle.table.proofs.FourHolds.{RowsOfFour, four_of_all}
 use Rattle.table.proofs.Rows.{rows_of_words}
-use Rattle.rows.specs.Eight.{taken}
+use Rattle.rows.specs.Taken.{taken}
 use Rattle.archive.specs.declared.Reply.{Reply}
 use Rattle.archive.specs.Does.{meant, CallDoes, RunDoes, LookDoes}
 use Rattle.byrow.specs.declared.Done.{Done}

@@ -5,7 +5,7 @@ use Rattle.model.specs.declared.Row.{Row}
 use Rattle.model.specs.declared.Answer.{Answer}
 use Rattle.model.specs.State.{State, Outcome}
 use Rattle.model.specs.Steps.{Ran}
-use Rattle.rows.specs.Eight.{taken, put_back}
+use Rattle.rows.specs.Taken.{taken, put_back}
 use Rattle.archive.specs.declared.Reply.{Reply}
 use Rattle.byrow.specs.declared.Done.{Done}
 

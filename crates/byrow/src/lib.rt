@@ -130,7 +130,7 @@ pub fn run_rows(
     )
 }
 
-// Fill, on the rows of a table.
+// Fill, on the rows of a table. It and the audit only look, and leave no rows to be read back: so without `on_words`.
 pub fn fill_rows(control: Control, arena: &[u32], rows: Option<[Row; 8]>) -> Reply
     ensures { LooksRows rows result (λ t. fill_call (state control arena.now t)) }
 {

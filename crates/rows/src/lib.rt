@@ -3,7 +3,7 @@
 #![tactic(auto)]
 
 ghost use Rattle.std.specs.Prelude.{◌≡◌};
-ghost use Rattle.rows.specs.Eight.{taken, put_back};
+ghost use Rattle.rows.specs.Taken.{taken, put_back};
 
 use model::Row;
 
