@@ -16,7 +16,7 @@ use Rattle.model.specs.Rows.{with_holds}
 use Rattle.model.proofs.Choice.{clash, and_parts}
 use Rattle.model.proofs.Says.{one_le}
 use Rattle.model.proofs.Holds.{four_holds}
-use Rattle.table.specs.Words.{phase_words, listed, row_words, phase_of, row_in, is_phase, is_row}
+use Rattle.table.specs.Words.{five, phase_words, listed, row_words, phase_of, row_in, is_phase, is_row}
 use Rattle.table.proofs.Twelve.{twelve}
 
 one_back : (b : Bool) → not (eqb (one b) 0) ≡ b
@@ -28,8 +28,7 @@ one_forth zero e = refl
 one_forth (suc zero) e = refl
 one_forth (suc (suc x)) e = let h : suc (suc x) ≤ 1 = leb-true (suc (suc x)) 1 e in absurd (omega arith)
 
-phase_back : (p : Phase)
-    → phase_of (phase_words p).tag (phase_words p).cell (phase_words p).hold (phase_words p).word (phase_words p).value ≡ p
+phase_back : (p : Phase) → phase_of (phase_words p) ≡ p
 unfolding phase_of
 phase_back Resting = refl
 phase_back (Ready c (Read h w)) = refl
@@ -37,8 +36,7 @@ phase_back (Ready c (Write h w v)) = refl
 phase_back (Waiting c (Read h w)) = refl
 phase_back (Waiting c (Write h w v)) = refl
 
-phase_means : (p : Phase)
-    → is_phase (phase_words p).tag (phase_words p).cell (phase_words p).hold (phase_words p).word (phase_words p).value ≡ true
+phase_means : (p : Phase) → is_phase (phase_words p) ≡ true
 unfolding is_phase
 phase_means Resting = refl
 phase_means (Ready c (Read h w)) = refl
@@ -46,7 +44,8 @@ phase_means (Ready c (Write h w v)) = refl
 phase_means (Waiting c (Read h w)) = refl
 phase_means (Waiting c (Write h w v)) = refl
 
-phase_forth : (tag c h w v : ℕ) → is_phase tag c h w v ≡ true → listed (phase_words (phase_of tag c h w v)) ≡ tag ∷ c ∷ h ∷ w ∷ v ∷ []
+phase_forth : (tag c h w v : ℕ) → is_phase (five tag c h w v) ≡ true
+    → listed (phase_words (phase_of (five tag c h w v))) ≡ tag ∷ c ∷ h ∷ w ∷ v ∷ []
 unfolding is_phase phase_of
 phase_forth zero c h w v e =
     let p = and_parts (eqb c 0) (eqb h 0 and eqb w 0 and eqb v 0) e in
@@ -60,7 +59,7 @@ phase_forth (suc (suc (suc (suc zero)))) c h w v e = rw (eqb-true v 0 e)
 phase_forth (suc (suc (suc (suc (suc zero))))) c h w v e = refl
 phase_forth (suc (suc (suc (suc (suc (suc n)))))) c h w v e =
     let tag = suc (suc (suc (suc (suc (suc n))))) in
-    clash (is_phase tag c h w v) e (simp (ne_eqb tag 0 (λ q. omega arith), lt-ltb 1 tag (omega arith), le-ltb tag 6 (omega arith)))
+    clash (is_phase (five tag c h w v)) e (simp (ne_eqb tag 0 (λ q. omega arith), lt-ltb 1 tag (omega arith), le-ltb tag 6 (omega arith)))
 
 -- the words of a row mean that row
 pub row_first : (x : Row) (t : List ℕ) → length x.holds ≡ 4 → row_in (row_words x ++ t) 0 ≡ x
@@ -81,7 +80,7 @@ pub words_first : (w : ℕ → ℕ) (t : List ℕ) → is_row (twelve w ++ t) 0 
 unfolding is_row row_in
 words_first w t e =
     let h : 11 < length (twelve w ++ t) = omega arith in
-    let means = is_phase (w 7) (w 8) (w 9) (w 10) (w 11) in
+    let means = is_phase (five (w 7) (w 8) (w 9) (w 10) (w 11)) in
     let p = and_parts (leb (w 0) 1) (leb (w 1) 1 and means) (rw (lt-ltb _ _ h) at e) in
     let q = and_parts (leb (w 1) 1) means p.1 in
     rw (lt-ltb _ _ h, one_forth (w 0) p.0, one_forth (w 1) q.0)

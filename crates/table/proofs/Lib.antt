@@ -1,7 +1,7 @@
 pub mod Stores
+pub mod Chunks
 pub mod Loops
 pub mod Twelve
-pub mod Phases
 pub mod Encoding
 pub mod FourHolds
 pub mod Reading

@@ -1,6 +1,6 @@
 -- The client table in words, twelve to a row: 0 attached, 1 passed, 2 to 5 the holds, 6 swaps, 7 phase, 8 cell, 9 hold, 10 word, 11 value.
 -- A row has one encoding; any other contents mean no row: "Row bytes that mean no row .. break R6".
-use Rattle.std.specs.Prelude.{Bool, false, not, List, [], ◌∷◌, ◌++◌, ℕ, zero, suc, ◌+◌, ◌*◌, ◌%◌, eqb, ltb, leb, length, get_or, set}
+use Rattle.std.specs.Prelude.{Bool, false, not, List, [], ◌∷◌, ◌++◌, ℕ, zero, suc, ◌+◌, ◌*◌, ◌%◌, eqb, ltb, leb, length, get_or, set, take, drop, Option, Some, None}
 use Rattle.model.specs.declared.Access.{Access}
 use Rattle.model.specs.declared.Access.TheVariants.{Read, Write}
 use Rattle.model.specs.declared.Phase.{Phase}
@@ -50,10 +50,19 @@ no_row = record { attached = false; passed = false; holds = empty_holds; swaps =
 abbrev pub whole : List ℕ → ℕ → Bool
 whole t k = ltb (k + 11) (length t)
 
-unfoldable pub phase_of : ℕ → ℕ → ℕ → ℕ → ℕ → Phase
-phase_of tag c h w v =
-    pick (ltb tag 2) Resting
-    (pick (ltb tag 4) (Ready c (access_of (eqb (tag % 2) 1) h w v)) (Waiting c (access_of (eqb (tag % 2) 1) h w v)))
+unfoldable pub phase_of : PhaseWords → Phase
+phase_of p =
+    pick (ltb p.tag 2) Resting
+    (pick (ltb p.tag 4) (Ready p.cell (access_of (eqb (p.tag % 2) 1) p.hold p.word p.value))
+    (Waiting p.cell (access_of (eqb (p.tag % 2) 1) p.hold p.word p.value)))
+
+-- the words of a phase in the twelve words from k on
+abbrev pub phase_in : List ℕ → ℕ → PhaseWords
+phase_in t k = five (get_or t (k + 7) 0) (get_or t (k + 8) 0) (get_or t (k + 9) 0) (get_or t (k + 10) 0) (get_or t (k + 11) 0)
+
+-- the twelve words of row i, where they lie whole in t
+unfoldable pub words_at : List ℕ → ℕ → Option (List ℕ)
+words_at t i = pick (whole t (12 * i)) (Some (take 12 (drop (12 * i) t))) None
 
 -- the row in the twelve words from k on, not asking whether they mean one
 unfoldable pub row_in : List ℕ → ℕ → Row
@@ -64,26 +73,23 @@ row_in t k =
       passed = not (eqb (get_or t (k + 1) 0) 0);
       holds = get_or t (k + 2) 0 ∷ get_or t (k + 3) 0 ∷ get_or t (k + 4) 0 ∷ get_or t (k + 5) 0 ∷ [];
       swaps = get_or t (k + 6) 0;
-      phase = phase_of (get_or t (k + 7) 0) (get_or t (k + 8) 0) (get_or t (k + 9) 0) (get_or t (k + 10) 0) (get_or t (k + 11) 0);
+      phase = phase_of (phase_in t k);
     })
     no_row
 
 -- resting: unused words are 0
-abbrev pub no_access : ℕ → ℕ → ℕ → ℕ → Bool
-no_access c h w v = eqb c 0 and eqb h 0 and eqb w 0 and eqb v 0
+abbrev pub no_access : PhaseWords → Bool
+no_access p = eqb p.cell 0 and eqb p.hold 0 and eqb p.word 0 and eqb p.value 0
 
 -- the five words of a phase mean one: no other number, unused words 0, "value 0 for a read"
-unfoldable pub is_phase : ℕ → ℕ → ℕ → ℕ → ℕ → Bool
-is_phase tag c h w v =
-    pick (eqb tag 0)
-    (no_access c h w v)
-    (ltb 1 tag and ltb tag 6 and (eqb (tag % 2) 1 or eqb v 0))
+unfoldable pub is_phase : PhaseWords → Bool
+is_phase p = pick (eqb p.tag 0) (no_access p) (ltb 1 p.tag and ltb p.tag 6 and (eqb (p.tag % 2) 1 or eqb p.value 0))
 
 -- the twelve words from k on mean a row
 unfoldable pub is_row : List ℕ → ℕ → Bool
 is_row t k =
     whole t k and leb (get_or t k 0) 1 and leb (get_or t (k + 1) 0) 1
-    and is_phase (get_or t (k + 7) 0) (get_or t (k + 8) 0) (get_or t (k + 9) 0) (get_or t (k + 10) 0) (get_or t (k + 11) 0)
+    and is_phase (phase_in t k)
 
 -- row i: what its words mean
 unfoldable pub row_at : List ℕ → ℕ → Row
@@ -105,12 +111,9 @@ row_read t i = row_in t (12 * i)
 abbrev pub rows_read : List ℕ → List Row
 rows_read t = list_from (row_read t) 0 8
 
--- row i becomes r; all but its phase, its phase, its swaps alone; a row that does not lie whole in t is not stored
+-- row i becomes r; its phase, its swaps alone; a row that does not lie whole in t is not stored
 unfoldable pub put_row : List ℕ → ℕ → Row → List ℕ
 put_row t i r = pick (whole t (12 * i)) (laid t (12 * i) (row_words r)) t
-
-unfoldable pub put_front : List ℕ → ℕ → Row → List ℕ
-put_front t i r = pick (whole t (12 * i)) (laid t (12 * i) (front_words r)) t
 
 unfoldable pub put_phase : List ℕ → ℕ → Phase → List ℕ
 put_phase t i p = pick (whole t (12 * i)) (laid t (12 * i + 7) (listed (phase_words p))) t

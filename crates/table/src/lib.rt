@@ -3,12 +3,13 @@
 // Words of a row: 0 attached, 1 passed, 2 to 5 the holds, 6 swaps, 7 phase, 8 cell, 9 hold, 10 word, 11 value.
 #![tactic(auto)]
 
-ghost use Rattle.std.specs.Prelude.{◌≡◌, ◌*◌};
-ghost use Rattle.model.specs.Choice.{any, total};
-ghost use Rattle.model.specs.Rows.{swaps_of, fresh_row, all_passed};
+ghost use Rattle.std.specs.Prelude.{◌≡◌, ◌+◌, ◌*◌, ◌≤◌, length, option_copied};
+ghost use Rattle.model.specs.Choice.{pick, any, total};
+ghost use Rattle.model.specs.Arena.{laid};
+ghost use Rattle.model.specs.Rows.{swaps_of, all_passed};
 ghost use Rattle.model.specs.Refusals.{holds_cell};
-ghost use Rattle.table.specs.Words.{phase_of, no_row, row_in, no_access, is_phase, is_row, row_at, rows_read};
-ghost use Rattle.table.specs.Words.{busy_words, phase_words, put_front, put_row, put_phase, put_swaps, each_row, clear_mark, freshen};
+ghost use Rattle.table.specs.Words.{row_words, whole, words_at, phase_in, row_in, is_phase, is_row, row_at, rows_read};
+ghost use Rattle.table.specs.Words.{busy_words, put_row, put_phase, put_swaps, each_row, clear_mark, freshen};
 
 use model::{Access, Phase, Row};
 use row::{access_of, is_among};
@@ -19,8 +20,23 @@ const ROWS: u32 = 8;
 // "each empty (65535) or a cell"
 const NONE: u32 = 65535;
 
+// Where no row is: unattached and not passed, which breaks R6.
+const NO_ROW: Row = Row {
+    attached: false,
+    passed: false,
+    holds: [NONE; 4],
+    swaps: 0,
+    phase: Phase::Resting,
+};
+
+// "Fresh .. leaves eight unattached rows: passed, resting, holds empty, swaps 0."
+const FRESH_ROW: Row = Row {
+    passed: true,
+    ..NO_ROW
+};
+
 // The words of a phase: 0 resting, 2 ready to read, 3 ready to write, 4 waiting to read, 5 waiting to write; unused words are 0.
-#[derive(Clone, Copy)]
+#[derive(Clone, Copy, PartialEq, Eq, Default)]
 pub struct PhaseWords {
     pub tag: u32,
     pub cell: u32,
@@ -29,107 +45,21 @@ pub struct PhaseWords {
     pub value: u32,
 }
 
-fn phase_of(tag: u32, cell: u32, hold: u32, word: u32, value: u32) -> Phase
-    ensures { result ≡ phase_of tag cell hold word value }
-{
-    let x = access_of(tag % 2 == 1, hold, word, value);
-    if tag < 2 {
-        Phase::Resting
-    } else if tag < 4 {
-        Phase::Ready(cell, x)
-    } else {
-        Phase::Waiting(cell, x)
-    }
-}
+impl From<PhaseWords> for Phase {
+    ghost use Rattle.std.specs.Prelude.{◌≡◌};
+    ghost use Rattle.table.specs.Words.{phase_of};
 
-// Where no row is: unattached and not passed, which breaks R6.
-fn no_row() -> Row
-    ensures { result ≡ no_row }
-{
-    Row {
-        attached: false,
-        passed: false,
-        holds: [NONE, NONE, NONE, NONE],
-        swaps: 0,
-        phase: Phase::Resting,
-    }
-}
+    ghost from_gives = { λ words phase. phase ≡ phase_of words };
 
-// Row i as its words have it, for the steps: whether they mean a row is the audit's matter.
-pub fn row_at(t: &[u32], i: u32) -> Row
-    ensures { result ≡ row_in t.now (12 * i) }
-{
-    let k = 12 * (i as usize);
-    if k + 11 < t.len() {
-        let phase = phase_of(t[k + 7], t[k + 8], t[k + 9], t[k + 10], t[k + 11]);
-        Row {
-            attached: t[k] != 0,
-            passed: t[k + 1] != 0,
-            holds: [t[k + 2], t[k + 3], t[k + 4], t[k + 5]],
-            swaps: t[k + 6],
-            phase,
+    #[tactic(auto, unfolding(crate::specs::Words::phase_of))]
+    fn from(words: PhaseWords) -> Phase {
+        let x = access_of(words.tag % 2 == 1, words.hold, words.word, words.value);
+        match words.tag {
+            0..=1 => Phase::Resting,
+            2..=3 => Phase::Ready(words.cell, x),
+            _ => Phase::Waiting(words.cell, x),
         }
-    } else {
-        no_row()
     }
-}
-
-// Resting: unused words are 0.
-fn no_access(cell: u32, hold: u32, word: u32, value: u32) -> bool
-    ensures { result ≡ no_access cell hold word value }
-{
-    if cell != 0 {
-        return false;
-    }
-    if hold != 0 {
-        return false;
-    }
-    if word != 0 {
-        return false;
-    }
-    value == 0
-}
-
-fn is_phase(tag: u32, cell: u32, hold: u32, word: u32, value: u32) -> bool
-    ensures { result ≡ is_phase tag cell hold word value }
-{
-    if tag == 0 {
-        return no_access(cell, hold, word, value);
-    }
-    if tag == 1 {
-        return false;
-    }
-    if 5 < tag {
-        return false;
-    }
-    if tag % 2 == 1 {
-        return true;
-    }
-    value == 0
-}
-
-// Whether the words of row i mean a row.
-fn is_row(t: &[u32], i: u32) -> bool
-    ensures { result ≡ is_row t.now (12 * i) }
-{
-    let k = 12 * (i as usize);
-    if k + 11 < t.len() {
-        if 1 < t[k] {
-            return false;
-        }
-        if 1 < t[k + 1] {
-            return false;
-        }
-        return is_phase(t[k + 7], t[k + 8], t[k + 9], t[k + 10], t[k + 11]);
-    }
-    false
-}
-
-// Row i as the audit sees it: "Row bytes that mean no row .. break R6".
-pub fn checked_row_at(t: &[u32], i: u32) -> Row
-    ensures { result ≡ row_at t.now i }
-{
-    if is_row(t, i) { row_at(t, i) } else { no_row() }
 }
 
 fn busy_words(read: u32, write: u32, cell: u32, x: Access) -> PhaseWords
@@ -153,97 +83,169 @@ fn busy_words(read: u32, write: u32, cell: u32, x: Access) -> PhaseWords
     }
 }
 
-fn phase_words(phase: Phase) -> PhaseWords
-    ensures { result ≡ phase_words phase }
-{
-    match phase {
-        Phase::Resting => PhaseWords {
-            tag: 0,
-            cell: 0,
-            hold: 0,
-            word: 0,
-            value: 0,
-        },
-        Phase::Ready(cell, x) => busy_words(2, 3, cell, x),
-        Phase::Waiting(cell, x) => busy_words(4, 5, cell, x),
+impl From<Phase> for PhaseWords {
+    ghost use Rattle.std.specs.Prelude.{◌≡◌};
+    ghost use Rattle.table.specs.Words.{phase_words};
+
+    ghost from_gives = { λ phase words. words ≡ phase_words phase };
+
+    fn from(phase: Phase) -> PhaseWords {
+        match phase {
+            Phase::Resting => PhaseWords::default(),
+            Phase::Ready(cell, x) => busy_words(2, 3, cell, x),
+            Phase::Waiting(cell, x) => busy_words(4, 5, cell, x),
+        }
     }
 }
 
-// Of row i all but the phase.
-fn put_front_at(t: &mut [u32], i: u32, row: Row)
-    ensures { t.new ≡ put_front t.old i row }
+// The words of a row's phase.
+fn phase_in(row: &[u32; 12]) -> PhaseWords
+    ensures { result ≡ phase_in row.now 0 }
+{
+    PhaseWords {
+        tag: row[7],
+        cell: row[8],
+        hold: row[9],
+        word: row[10],
+        value: row[11],
+    }
+}
+
+// The row in twelve words, not asking whether they mean one.
+#[tactic(auto, unfolding(crate::specs::Words::row_in))]
+fn row_of(words: &[u32; 12]) -> Row
+    ensures { result ≡ row_in words.now 0 }
+{
+    Row {
+        attached: words[0] != 0,
+        passed: words[1] != 0,
+        holds: [words[2], words[3], words[4], words[5]],
+        swaps: words[6],
+        phase: Phase::from(phase_in(words)),
+    }
+}
+
+// The twelve words of row i, where they lie whole in the table.
+fn words_of(t: &[u32], i: u32) -> Option<&[u32; 12]>
+    ensures { option_copied result ≡ words_at t.now i }
+{
+    let (rows, _) = t.as_chunks();
+    rows.get(i as usize)
+}
+
+// Row i as its words have it, for the steps: whether they mean a row is the audit's matter.
+pub fn row_at(t: &[u32], i: u32) -> Row
+    ensures { result ≡ row_in t.now (12 * i) }
+{
+    words_of(t, i).map_or(NO_ROW, row_of)
+}
+
+// No other number, unused words 0, "value 0 for a read".
+#[tactic(auto, unfolding(crate::specs::Words::is_phase))]
+fn is_phase(words: PhaseWords) -> bool
+    ensures { result ≡ is_phase words }
+{
+    match words.tag {
+        0 => words == PhaseWords::default(),
+        2 | 4 => words.value == 0,
+        3 | 5 => true,
+        _ => false,
+    }
+}
+
+// Whether twelve words mean a row.
+#[tactic(auto, unfolding(crate::specs::Words::is_row))]
+fn is_row(words: &[u32; 12]) -> bool
+    ensures { result ≡ is_row words.now 0 }
+{
+    words[0] <= 1 && words[1] <= 1 && is_phase(phase_in(words))
+}
+
+// Row i as the audit sees it: "Row bytes that mean no row .. break R6".
+pub fn checked_row_at(t: &[u32], i: u32) -> Row
+    ensures { result ≡ row_at t.now i }
+{
+    if words_of(t, i).is_some_and(is_row) {
+        row_at(t, i)
+    } else {
+        NO_ROW
+    }
+}
+
+// The words of a row.
+fn row_words(row: Row) -> [u32; 12]
+    ensures { result ≡ row_words row }
+{
+    let [h0, h1, h2, h3] = row.holds;
+    let p = PhaseWords::from(row.phase);
+    [
+        row.attached as u32,
+        row.passed as u32,
+        h0,
+        h1,
+        h2,
+        h3,
+        row.swaps,
+        p.tag,
+        p.cell,
+        p.hold,
+        p.word,
+        p.value,
+    ]
+}
+
+// Words of row i from its word `from` on; of a row that does not lie whole in the table none is stored.
+fn put_words(t: &mut [u32], i: u32, from: usize, words: &[u32])
+    requires { from + length words.now ≤ 12 }
+    ensures { t.new ≡ pick (whole t.old (12 * i)) (laid t.old (12 * i + from) words.now) t.old }
 {
     let k = 12 * (i as usize);
-    let holds = row.holds;
     if k + 11 < t.len() {
-        t[k] = row.attached as u32;
-        t[k + 1] = row.passed as u32;
-        t[k + 2] = holds[0];
-        t[k + 3] = holds[1];
-        t[k + 4] = holds[2];
-        t[k + 5] = holds[3];
-        t[k + 6] = row.swaps;
+        t[k + from..k + from + words.len()].copy_from_slice(words);
     }
 }
 
 // The phase of row i alone: READ, WRITE and GO.
+#[tactic(auto, unfolding(crate::specs::Words::put_phase))]
 pub fn put_phase_at(t: &mut [u32], i: u32, phase: Phase)
     ensures { t.new ≡ put_phase t.old i phase }
 {
-    let k = 12 * (i as usize);
-    let p = phase_words(phase);
-    if k + 11 < t.len() {
-        t[k + 7] = p.tag;
-        t[k + 8] = p.cell;
-        t[k + 9] = p.hold;
-        t[k + 10] = p.word;
-        t[k + 11] = p.value;
-    }
+    let p = PhaseWords::from(phase);
+    put_words(t, i, 7, &[p.tag, p.cell, p.hold, p.word, p.value]);
 }
 
 // Row i becomes `row`.
+#[tactic(auto, unfolding(crate::specs::Words::put_row))]
 pub fn put_row_at(t: &mut [u32], i: u32, row: Row)
     ensures { t.new ≡ put_row t.old i row }
 {
-    let phase = row.phase;
-    put_front_at(t, i, row);
-    put_phase_at(t, i, phase);
+    put_words(t, i, 0, &row_words(row));
 }
 
 // The swaps of row i alone: GO.
+#[tactic(auto, unfolding(crate::specs::Words::put_swaps))]
 pub fn put_swaps_at(t: &mut [u32], i: u32, swaps: u32)
     ensures { t.new ≡ put_swaps t.old i swaps }
 {
     record::store(t, 12 * (i as usize) + 6, swaps);
 }
 
+#[tactic(auto, unfolding(crate::specs::Words::clear_mark))]
 fn clear_mark(t: &mut [u32], i: u32)
     ensures { t.new ≡ clear_mark t.old i }
 {
     let k = 12 * (i as usize);
-    let attached = record::load(t, k);
-    record::store(t, k + 1, (attached == 0) as u32);
+    let attached = record::load(t, k) != 0;
+    record::store(t, k + 1, !attached as u32);
 }
 
 // "Clearing marks sets attached rows to not passed and unattached rows to passed."
+#[tactic(auto, using(crate::proofs::Loops::each_none, crate::proofs::Loops::each_more))]
 pub fn clear_marks(t: &mut [u32])
     ensures { t.new ≡ each_row clear_mark t.old 8 }
 {
-    let mut i = 0;
-    while i < ROWS {
+    for i in 0..ROWS {
         clear_mark(t, i);
-        i += 1;
-    }
-}
-
-fn has_passed(t: &[u32], i: u32) -> bool
-    ensures { result ≡ (row_in t.now (12 * i)).passed }
-{
-    let k = 12 * (i as usize);
-    if k + 11 < t.len() {
-        t[k + 1] != 0
-    } else {
-        false
     }
 }
 
@@ -251,71 +253,29 @@ fn has_passed(t: &[u32], i: u32) -> bool
 pub fn all_passed(t: &[u32]) -> bool
     ensures { result ≡ all_passed (rows_read t.now) }
 {
-    let mut i = 0;
-    while i < ROWS {
-        if !has_passed(t, i) {
-            return false;
-        }
-        i += 1;
-    }
-    true
+    (0..ROWS).all(|i| row_at(t, i).passed)
 }
 
 // 11 "RETIRE of a record some row holds"
 pub fn holds_cell(t: &[u32], cell: u32) -> bool
     ensures { result ≡ any (holds_cell cell) (rows_read t.now) }
 {
-    let mut i = 0;
-    while i < ROWS {
-        let row = row_at(t, i);
-        let holds = row.holds;
-        if is_among(holds, cell) {
-            return true;
-        }
-        i += 1;
-    }
-    false
-}
-
-fn swaps_at(t: &[u32], i: u32) -> u32
-    ensures { result ≡ (row_in t.now (12 * i)).swaps }
-{
-    let row = row_at(t, i);
-    row.swaps
+    (0..ROWS).any(|i| is_among(row_at(t, i).holds, cell))
 }
 
 // Replay's total "all swaps": a sum over eight rows, which needs more than 32 bits.
 pub fn all_swaps(t: &[u32]) -> u64
     ensures { result ≡ total swaps_of (rows_read t.now) }
 {
-    let mut sum: u64 = 0;
-    let mut i = 0;
-    while i < ROWS {
-        sum += swaps_at(t, i) as u64;
-        i += 1;
-    }
-    sum
-}
-
-fn fresh_row() -> Row
-    ensures { result ≡ fresh_row }
-{
-    Row {
-        attached: false,
-        passed: true,
-        holds: [NONE, NONE, NONE, NONE],
-        swaps: 0,
-        phase: Phase::Resting,
-    }
+    (0..ROWS).map(|i| u64::from(row_at(t, i).swaps)).sum()
 }
 
 // "Fresh .. leaves eight unattached rows: passed, resting, holds empty, swaps 0."
+#[tactic(auto, using(crate::proofs::Loops::each_none, crate::proofs::Loops::each_more))]
 pub fn fresh_rows(t: &mut [u32])
     ensures { t.new ≡ each_row freshen t.old 8 }
 {
-    let mut i = 0;
-    while i < ROWS {
-        put_row_at(t, i, fresh_row());
-        i += 1;
+    for i in 0..ROWS {
+        put_row_at(t, i, FRESH_ROW);
     }
 }

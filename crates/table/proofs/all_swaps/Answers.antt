@@ -1,17 +1,22 @@
--- `table::all_swaps` meets its contract. The invariant: the sum so far and that over the rows from i on make the whole.
-use Rattle.std.proofs.Common.{rules, ap, ◌≡◌, arith}
-use native.Mathlib.Nat.{add-zero}
-use Rattle.model.specs.Choice.{total}
+-- `table::all_swaps` meets its contract: the swaps are summed row by row, and each fits 32 bits.
+use Rattle.std.proofs.Common.{rules, tests, refl, ◌∙◌, ℕ, arith}
+use Rattle.std.proofs.lemmas.Iterator.{YieldsList-from_range, YieldsList-from_map}
+use Rattle.std.proofs.lemmas.Iterator.Adapters.{fits_from_length, at_most_from_yields_List}
+use Rattle.std.proofs.lemmas.Iterator.Consumers.{sum_by_from_yields_List}
+use Rattle.std.specs.List.{range_with_len}
 use Rattle.model.specs.Rows.{swaps_of}
-use Rattle.table.specs.Words.{row_read, list_from}
-use Rattle.table.proofs.Loops.{list_next}
+use Rattle.table.specs.Words.{row_read}
+use Rattle.table.proofs.Loops.{sum_asked}
 use Rattle.table.proofs.all_swaps.Goals as goal
 
-pub loop-i-preserved : goal.loop-i-preserved
-loop-i-preserved c =
-    let n = ap (total swaps_of) (list_next (row_read c.args.t.now) 8 c.loop-i.i c.loop-i-test.true) in
-    (omega (arith, n, c.swaps_at.ensures), search rules, search rules)
+pub sum-requires-clause-fits : goal.sum-requires-clause-fits
+sum-requires-clause-fits c =
+    fits_from_length _ _ 8 18446744073709551616 (at_most_from_yields_List (YieldsList-from_range 0 8 8 c.map.ensures.source refl) (omega arith)) c.map.ensures.closure (omega arith)
+    (λ x r q k. search (rules, tests))
 
 pub returns : goal.returns
-unfolding list_from
-returns c = let e : c.loop-i.i ≡ 8 = omega arith in rw (e, add-zero c.loop-i.sum) at c.loop-i.invariant.0
+returns c =
+    let swaps = λ (i : ℕ). (row_read c.args.t.now i).swaps in
+    sum_by_from_yields_List swaps (range_with_len 0 8) c.map.result _ c.sum.ensures.ran
+    (YieldsList-from_map _ swaps (YieldsList-from_range 0 8 8 c.map.ensures.source refl) c.map.ensures.closure (λ x r q k. search (rules, tests)))
+    ∙ sum_asked (row_read c.args.t.now) swaps_of 0 8

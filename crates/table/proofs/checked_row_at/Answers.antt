@@ -1,12 +1,17 @@
--- `table::checked_row_at` meets its contract: what `is_row` says picks the way.
+-- `table::checked_row_at` meets its contract: whether its words mean a row picks the way (proofs/Chunks).
 use Rattle.std.proofs.Common.{sym, ◌∙◌}
 use Rattle.table.specs.Words.{row_at}
+use Rattle.table.proofs.Chunks.{is_row_lent}
 use Rattle.table.proofs.checked_row_at.Goals as goal
 
-pub returns-then-is_row : goal.returns-then-is_row
+pub returns-then-is_some_and : goal.returns-then-is_some_and
 unfolding row_at
-returns-then-is_row c = rw (sym c.is_row.ensures ∙ c.if-is_row.true) c.row_at.ensures
+returns-then-is_some_and c =
+    let e = is_row_lent c.args.t.now c.args.i c.words_of.result _ c.words_of.ensures c.is_some_and.ensures in
+    rw (sym e ∙ c.if-is_some_and.true) c.row_at.ensures
 
-pub returns-else-is_row : goal.returns-else-is_row
+pub returns-else-is_some_and : goal.returns-else-is_some_and
 unfolding row_at
-returns-else-is_row c = rw (sym c.is_row.ensures ∙ c.if-is_row.false) c.no_row.ensures
+returns-else-is_some_and c =
+    let e = is_row_lent c.args.t.now c.args.i c.words_of.result _ c.words_of.ensures c.is_some_and.ensures in
+    rw (sym e ∙ c.if-is_some_and.false)

@@ -1,21 +1,15 @@
--- `table::holds_cell` meets its contract. The invariant: some row holds the cell just when one from i on does.
-use Rattle.std.proofs.Common.{rules, ◌≡◌, sym, ◌∙◌, arith}
-use Rattle.table.specs.Words.{list_from}
-use Rattle.table.proofs.Loops.{list_next}
+-- `table::holds_cell` meets its contract: each row is asked by its number.
+use Rattle.std.proofs.Common.{rules, tests, refl, ◌∙◌}
+use Rattle.std.proofs.lemmas.Iterator.{YieldsList-from_range}
+use Rattle.std.proofs.lemmas.Iterator.Search.{any_from_yields_List}
+use Rattle.model.specs.Refusals.{holds_cell}
+use Rattle.table.specs.Words.{row_read}
+use Rattle.table.proofs.Loops.{any_asked}
 use Rattle.table.proofs.holds_cell.Goals as goal
 
-pub returns-then-is_among : goal.returns-then-is_among
-returns-then-is_among c =
-    rw (list_next _ 8 _ c.loop-i-test.true, ← c.row_at-row.ensures, sym c.is_among.ensures ∙ c.if-is_among.true) at
-    c.loop-i.invariant.0
-
-pub loop-i-preserved : goal.loop-i-preserved
-loop-i-preserved c = (
-  rw (list_next _ 8 _ c.loop-i-test.true, ← c.row_at-row.ensures, sym c.is_among.ensures ∙ c.if-is_among.false) at
-      c.loop-i.invariant.0,
-  search rules,
-)
-
 pub returns : goal.returns
-unfolding list_from
-returns c = let e : c.loop-i.i ≡ 8 = omega arith in rw e at c.loop-i.invariant.0
+returns c =
+    let s = c.args in
+    any_from_yields_List (λ i. holds_cell s.cell (row_read s.t.now i)) _ _ c.any.result c.any.ensures.ran (YieldsList-from_range 0 8 8 refl refl)
+    (λ x b q k. search (rules, tests))
+    ∙ any_asked (row_read s.t.now) (holds_cell s.cell) 0 8

@@ -1,13 +1,6 @@
--- `table::row_at` meets its contract: one test, then the twelve words read in place.
-use borrow.Author.Tests.{lt-ltb, le-ltb}
-use Rattle.table.specs.Words.{row_in}
+-- `table::row_at` meets its contract: the row's words are read in place (proofs/Chunks).
+use Rattle.table.proofs.Chunks.{row_lent}
 use Rattle.table.proofs.row_at.Goals as goal
 
-pub returns-then-k-t : goal.returns-then-k-t
-unfolding row_in
-returns-then-k-t c =
-    simp (lt-ltb _ _ c.if-k-t.true, c.phase_of-phase.ensures)
-
-pub returns-else-k-t : goal.returns-else-k-t
-unfolding row_in
-returns-else-k-t c = simp (le-ltb _ _ c.if-k-t.false) c.no_row.ensures
+pub returns : goal.returns
+returns c = row_lent c.args.t.now c.args.i c.words_of.result _ c.words_of.ensures c.map_or.ensures
