@@ -13,7 +13,7 @@ use Rattle.model.specs.declared.Row.{Row}
 use Rattle.model.proofs.Choice.{by_test}
 use Rattle.table.specs.Words.{whole, words_at, no_row, phase_in, row_in, is_row}
 
-chunk_at : (n k i : ℕ) (t : List ℕ) (d : List ℕ) → i < k → get_or (first_chunks n k t) i d ≡ take n (drop (n * i) t)
+pub chunk_at : (n k i : ℕ) (t : List ℕ) (d : List ℕ) → i < k → get_or (first_chunks n k t) i d ≡ take n (drop (n * i) t)
 chunk_at n zero i t d h = absurd (omega arith)
 chunk_at n (suc k) zero t d h = let e : n * 0 ≡ 0 = omega arith in rw e
 chunk_at n (suc k) (suc i) t d h =
@@ -29,13 +29,20 @@ chunk_lent t i rows (Some x) e n h =
     rw (lt-ltb (12 * i + 11) (length t) (omega arith))
     (ap Some (h.3.1 x.now ∙ ap (λ (l : List (List ℕ)). get_or l i x.now) e ∙ chunk_at 12 (length t / 12) i t x.now p))
 
--- the words that lie in the table from k on
-module _ (t : List ℕ) (k : ℕ) where
-  word_in : (j : ℕ) → j < 12 → get_or (take 12 (drop k t)) j 0 ≡ get_or t (k + j) 0
-  word_in j h = get_or-take 12 (drop k t) j 0 h ∙ get_or-drop k t j 0
+-- the words of a chunk
+pub word_in : (n : ℕ) (t : List ℕ) (k j : ℕ) → j < n → get_or (take n (drop k t)) j 0 ≡ get_or t (k + j) 0
+word_in n t k j h = get_or-take n (drop k t) j 0 h ∙ get_or-drop k t j 0
 
-  first_in : get_or (take 12 (drop k t)) 0 0 ≡ get_or t k 0
-  first_in = let e : k + 0 ≡ k = omega arith in word_in 0 (omega arith) ∙ rw e
+pub first_in : (n : ℕ) (t : List ℕ) (k : ℕ) → 0 < n → get_or (take n (drop k t)) 0 0 ≡ get_or t k 0
+first_in n t k h = let e : k + 0 ≡ k = omega arith in word_in n t k 0 h ∙ rw e
+
+-- the twelve words from k on
+module _ (t : List ℕ) (k : ℕ) where
+  first : get_or (take 12 (drop k t)) 0 0 ≡ get_or t k 0
+  first = first_in 12 t k (omega arith)
+
+  there : (j : ℕ) → j < 12 → get_or (take 12 (drop k t)) j 0 ≡ get_or t (k + j) 0
+  there = word_in 12 t k
 
   whole_in : whole t k ≡ true → whole (take 12 (drop k t)) 0 ≡ true
   whole_in e =
@@ -44,7 +51,7 @@ module _ (t : List ℕ) (k : ℕ) where
 
   phase_there : phase_in (take 12 (drop k t)) 0 ≡ phase_in t k
   phase_there =
-      rw (word_in 7 (omega arith), word_in 8 (omega arith), word_in 9 (omega arith), word_in 10 (omega arith), word_in 11 (omega arith))
+      rw (there 7 (omega arith), there 8 (omega arith), there 9 (omega arith), there 10 (omega arith), there 11 (omega arith))
 
   row_there : whole t k ≡ true → row_in (take 12 (drop k t)) 0 ≡ row_in t k
   unfolding row_in
@@ -52,19 +59,19 @@ module _ (t : List ℕ) (k : ℕ) where
       rw (
         e,
         whole_in e,
-        first_in,
-        word_in 1 (omega arith),
-        word_in 2 (omega arith),
-        word_in 3 (omega arith),
-        word_in 4 (omega arith),
-        word_in 5 (omega arith),
-        word_in 6 (omega arith),
+        first,
+        there 1 (omega arith),
+        there 2 (omega arith),
+        there 3 (omega arith),
+        there 4 (omega arith),
+        there 5 (omega arith),
+        there 6 (omega arith),
         phase_there,
       )
 
   is_row_there : whole t k ≡ true → is_row (take 12 (drop k t)) 0 ≡ is_row t k
   unfolding is_row
-  is_row_there e = rw (e, whole_in e, first_in, word_in 1 (omega arith), phase_there)
+  is_row_there e = rw (e, whole_in e, first, there 1 (omega arith), phase_there)
 
 -- what an answer to words_at says of row i
 module _ (t : List ℕ) (i : ℕ) where

@@ -1,21 +1,20 @@
--- The loop over the steps: one turn more, or none where no step is left. Assumes nothing.
-use mathlib.Core.Path.{◌≡◌, refl, ◌∙◌}
-use mathlib.Core.Bool.{true, false}
-use mathlib.Core.List.{List}
-use Prim.Native.Nat.{ℕ, zero, suc, ◌+◌, ◌-◌, ◌*◌, ◌≤◌, ◌<◌}
-use native.Mathlib.Numerals.{add-one}
-use native.Mathlib.Omega.{arith}
+-- The loop over the steps: which steps there are, one turn more, and none where no step is left. Assumes nothing.
+use Rattle.std.proofs.Common.{◌≡◌, refl, ap, ◌∙◌, List, [], true, false, ℕ, zero, suc, ◌+◌, ◌-◌, ◌*◌, ◌/◌, ◌≤◌, ◌<◌, min, length, get_or, take, drop, add-one, arith}
+use Rattle.std.specs.Simd.{first_chunks}
+use Rattle.std.proofs.lemmas.Bool.{false_from_ne_true}
+use Rattle.std.proofs.lemmas.List.{get_or-take}
 use lib.Dec.{ltb}
-use lib.ListN.{length}
 use borrow.Author.Tests.{ltb-true, lt-ltb, le-ltb}
 use Rattle.model.specs.declared.Answer.{Answer}
 use Rattle.model.specs.declared.Control.{Control}
 use Rattle.model.specs.Choice.{◌and◌}
-use Rattle.model.specs.Steps.{Step, step_at}
+use Rattle.model.specs.Steps.{step_at}
 use Rattle.model.proofs.Choice.{and_parts, and_no}
+use Rattle.table.proofs.Chunks.{chunk_at, word_in, first_in}
 use Rattle.answers.specs.Answers.{told_as}
-use Rattle.acts.specs.Acts.{Lent, lent, Turn, turn_on}
-use Rattle.turns.specs.Runs.{Going, going, put_told, has_step, after, turns_from}
+use Rattle.acts.specs.declared.Turned.{Turned}
+use Rattle.acts.specs.Acts.{lent, Turn, turn_on, TurnDoes}
+use Rattle.turns.specs.Runs.{step_of, numbers_at, Going, going, put_told, has_step, after, turns_from, StepDoes}
 
 -- whether there is a step i
 pub step_there : (words slots i : ℕ) → i < 4096 → 5 * i + 4 < words → 2 * i + 1 < slots → has_step words slots i ≡ true
@@ -26,9 +25,43 @@ no_step : (words slots i : ℕ) → words ≤ 5 * i + 4 → has_step words slots
 unfolding has_step
 no_step words slots i h = rw (le-ltb (5 * i + 4) words h) (and_no (ltb i 4096))
 
-pub step_below : (words slots i : ℕ) → has_step words slots i ≡ true → i < 4096
+-- the steps that there are: no step is left behind n
+no_more_steps : (words slots n : ℕ) → n ≡ min (min (words / 5) (slots / 2)) 4096 → has_step words slots n ≡ false
 unfolding has_step
-step_below words slots i e = ltb-true i 4096 (and_parts (ltb i 4096) (ltb (5 * i + 4) words and ltb (2 * i + 1) slots) e).0
+no_more_steps words slots n e =
+    false_from_ne_true (has_step words slots n)
+    (λ h.
+    let p = and_parts (ltb n 4096) (ltb (5 * n + 4) words and ltb (2 * n + 1) slots) h in
+    let q = and_parts (ltb (5 * n + 4) words) (ltb (2 * n + 1) slots) p.1 in
+    let a : n < 4096 = ltb-true n 4096 p.0 in
+    let b : 5 * n + 4 < words = ltb-true (5 * n + 4) words q.0 in
+    let c : 2 * n + 1 < slots = ltb-true (2 * n + 1) slots q.1 in
+    omega arith)
+
+-- step i as the loop has it: a chunk of five words
+pub chunk_step : (ws : List ℕ) (i n : ℕ) → i < n → n ≤ length ws / 5
+    → step_of (numbers_at (get_or (take n (first_chunks 5 (length ws / 5) ws)) i []) 0) ≡ step_at ws i
+chunk_step ws i n h k =
+    let e : get_or (take n (first_chunks 5 (length ws / 5) ws)) i [] ≡ take 5 (drop (5 * i) ws) =
+    get_or-take n (first_chunks 5 (length ws / 5) ws) i [] h ∙ chunk_at 5 (length ws / 5) i ws [] (omega arith) in
+    rw (
+      e,
+      first_in 5 ws (5 * i) (omega arith),
+      word_in 5 ws (5 * i) 1 (omega arith),
+      word_in 5 ws (5 * i) 2 (omega arith),
+      word_in 5 ws (5 * i) 3 (omega arith),
+      word_in 5 ws (5 * i) 4 (omega arith),
+    )
+
+-- the keeper's function on the whole control record does a step
+pub step_kept : {a t : List ℕ} {r : Turned} {o : Turn} → TurnDoes a t r o → StepDoes r.control a t r.answer o
+step_kept d =
+    record {
+      control = ap (λ (z : Turned). z.control) d.result;
+      arena = d.arena;
+      table = d.table;
+      answer = ap (λ (z : Turned). z.answer) d.result;
+    }
 
 pub turns_stop : (ws : List ℕ) (i n : ℕ) (g : Going) → has_step (length ws) (length g.slots) i ≡ false → turns_from ws i n g ≡ g
 unfolding turns_from
@@ -43,39 +76,20 @@ pub turns_next : (ws : List ℕ) (i n : ℕ) (g : Going) → has_step (length ws
 unfolding turns_from
 turns_next ws i n g e = rw e
 
--- what is lent and answered after a step; arena, table and directory are as long as before
-pub record Took (l : Lent) (t : Step) (d : Control) (b u : List ℕ) (y : Answer) : Type 0 where
-  control : d ≡ (turn_on l t).next.control
-  arena : b ≡ (turn_on l t).next.arena
-  table : u ≡ (turn_on l t).next.table
-  answer : y ≡ (turn_on l t).answer
-  pub arena_length : length b ≡ length l.arena
-  pub table_length : length u ≡ length l.table
-  pub entries : length d.dir ≡ 256
-
-pub took_by : {l : Lent} {t : Step} {o : Turn} {d : Control} {b u : List ℕ} {y : Answer} → turn_on l t ≡ o
-    → d ≡ o.next.control → b ≡ o.next.arena → u ≡ o.next.table → y ≡ o.answer
-    → length b ≡ length l.arena → length u ≡ length l.table → length d.dir ≡ 256 → Took l t d b u y
-took_by e c a t x m n k =
-    record {
-      control = rw e c;
-      arena = rw e a;
-      table = rw e t;
-      answer = rw e x;
-      arena_length = m;
-      table_length = n;
-      entries = k;
-    }
-
 -- what the loop keeps: the whole run is the turns that are left, on what is lent now
 pub turns_more : (ws : List ℕ) (i : ℕ) (whole : Going) (c : Control) (a t s : List ℕ) (x : Answer)
     {d : Control} {b u v : List ℕ} {y : Answer}
-    → whole ≡ turns_from ws i (4096 - i) (going (lent c a t) s x) → has_step (length ws) (length s) i ≡ true
-    → Took (lent c a t) (step_at ws i) d b u y → v ≡ put_told s i (told_as y)
+    → whole ≡ turns_from ws i (4096 - i) (going (lent c a t) s x) → i < min (min (length ws / 5) (length s / 2)) 4096
+    → StepDoes d b u y (turn_on (lent c a t) (step_at ws i)) → v ≡ put_told s i (told_as y)
     → whole ≡ turns_from ws (i + 1) (4096 - (i + 1)) (going (lent d b u) v y)
 turns_more ws i whole c a t s x w h o ev =
-    let k : 4096 - i ≡ suc (4096 - (i + 1)) = omega (arith, step_below (length ws) (length s) i h) in
+    let k : 4096 - i ≡ suc (4096 - (i + 1)) = omega arith in
     let g : Going = going (lent c a t) s x in
+    let there = step_there (length ws) (length s) i (omega arith) (omega arith) (omega arith) in
     let n : turns_from ws i (4096 - i) g ≡ turns_from ws (suc i) (4096 - (i + 1)) (after i g (turn_on (lent c a t) (step_at ws i))) =
-    rw k (turns_next ws i (4096 - (i + 1)) g h) in
+    rw k (turns_next ws i (4096 - (i + 1)) g there) in
     w ∙ (n ∙ rw (ev, o.answer, o.control, o.arena, o.table, add-one i))
+
+pub turns_done : (ws : List ℕ) (n : ℕ) (g : Going) → n ≡ min (min (length ws / 5) (length g.slots / 2)) 4096
+    → turns_from ws n (4096 - n) g ≡ g
+turns_done ws n g e = turns_stop ws n (4096 - n) g (no_more_steps (length ws) (length g.slots) n e)

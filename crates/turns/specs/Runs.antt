@@ -2,8 +2,9 @@
 -- proofs/Runs joins it to the model's steps one by one, on the words of rows.
 use Rattle.std.specs.Prelude.{Bool, List, ◌≡◌, ℕ, zero, suc, ◌+◌, ◌*◌, ltb, length, set}
 use Rattle.model.specs.declared.Answer.{Answer}
+use Rattle.model.specs.declared.Control.{Control}
 use Rattle.model.specs.Choice.{pick, ◌and◌}
-use Rattle.model.specs.Steps.{step_at}
+use Rattle.model.specs.Steps.{Step, step, step_at}
 use Rattle.answers.specs.declared.Told.{Told}
 use Rattle.answers.specs.Answers.{told_as}
 use Rattle.acts.specs.declared.Turned.{Turned}
@@ -14,6 +15,9 @@ use Rattle.turns.specs.declared.Numbers.{Numbers}
 abbrev pub numbers_at : List ℕ → ℕ → Numbers
 numbers_at ws i =
     record { who = (step_at ws i).who; code = (step_at ws i).code; a = (step_at ws i).a; b = (step_at ws i).b; v = (step_at ws i).v }
+
+abbrev pub step_of : Numbers → Step
+step_of n = step n.who n.code n.a n.b n.v
 
 -- A run: what is lent, the answer slots, and the last answer
 pub record Going : Type 0 where
@@ -41,7 +45,13 @@ turns_from ws i zero g = g
 turns_from ws i (suc n) g =
     pick (has_step (length ws) (length g.slots) i) (turns_from ws (suc i) n (after i g (turn_on g.lent (step_at ws i)))) g
 
--- What the function does
+-- What the functions do: a step, and a run
+pub record StepDoes (c : Control) (a t : List ℕ) (r : Answer) (o : Turn) : Type 0 where
+  pub control : c ≡ o.next.control
+  pub arena : a ≡ o.next.arena
+  pub table : t ≡ o.next.table
+  pub answer : r ≡ o.answer
+
 pub record RunDoes (a t s : List ℕ) (r : Turned) (g : Going) : Type 0 where
   pub arena : a ≡ g.lent.arena
   pub table : t ≡ g.lent.table

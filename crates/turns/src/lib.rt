@@ -2,14 +2,18 @@
 // Knows nothing of sizes or soundness; on words that mean no rows it is still defined.
 #![tactic(auto)]
 
-ghost use Rattle.std.specs.Prelude.{◌≡◌};
+ghost use Rattle.std.specs.Prelude.{◌≡◌, ◌+◌, ◌*◌, ◌<◌, length};
 ghost use Rattle.model.specs.declared.Answer.TheVariants.{Done};
 ghost use Rattle.answers.specs.Answers.{told_as};
-ghost use Rattle.acts.specs.Acts.{lent};
-ghost use Rattle.turns.specs.Runs.{numbers_at, going, put_told, has_step, turns_from, RunDoes};
+ghost use Rattle.acts.specs.Acts.{lent, turn_on};
+ghost use Rattle.turns.specs.Runs.{step_of, going, put_told, turns_from, StepDoes, RunDoes};
 
 use acts::Turned;
-use model::{Answer, Control};
+use answers::Told;
+use model::{Answer, Control, Reason};
+
+// "A run of up to 4,096 steps"
+const MOST: usize = 4096;
 
 // "A step is five numbers: who, code, a, b, v."
 #[derive(Clone, Copy)]
@@ -22,40 +26,71 @@ pub struct Numbers {
 }
 
 // "five words each"
-fn numbers_at(steps: &[u32], i: u32) -> Numbers
-    ensures { result ≡ numbers_at steps.now i }
+impl From<[u32; 5]> for Numbers {
+    ghost use Rattle.std.specs.Prelude.{◌≡◌};
+    ghost use Rattle.turns.specs.Runs.{numbers_at};
+
+    ghost from_gives = { λ words step. step ≡ numbers_at words 0 };
+
+    fn from(words: [u32; 5]) -> Numbers {
+        let [who, code, a, b, v] = words;
+        Numbers { who, code, a, b, v }
+    }
+}
+
+// The keeper's step. ADVANCE on the move alone passes no control record.
+fn keep(control: &mut Control, arena: &mut [u32], table: &mut [u32], step: Numbers) -> Answer
+    requires { step.who ≡ 0 }
+    ensures { StepDoes control.new arena.new table.new result
+        (turn_on (lent control.old arena.old table.old) (step_of step)) }
 {
-    let k = 5 * (i as usize);
-    Numbers {
-        who: record::load(steps, k),
-        code: record::load(steps, k + 1),
-        a: record::load(steps, k + 2),
-        b: record::load(steps, k + 3),
-        v: record::load(steps, k + 4),
+    let passed = table::all_passed(table);
+    if acts::by_move(step.code, control.mv, passed) {
+        let o = acts::advance(arena, table, control.mv, passed);
+        control.mv = o.mv;
+        o.answer
+    } else {
+        let o = acts::keep(*control, arena, table, step.code, step.a, step.b);
+        *control = o.control;
+        o.answer
+    }
+}
+
+// One step: "Who 0 is the keeper, 1 to 8 the clients."
+fn turn(control: &mut Control, arena: &mut [u32], table: &mut [u32], step: Numbers) -> Answer
+    ensures { StepDoes control.new arena.new table.new result
+        (turn_on (lent control.old arena.old table.old) (step_of step)) }
+{
+    match step.who {
+        0 => keep(control, arena, table, step),
+        1..=8 => acts::client(
+            arena,
+            table,
+            &control.dir,
+            step.who - 1,
+            step.code,
+            step.a,
+            step.b,
+            step.v,
+        ),
+        9..=4294967295 => Answer::from(Reason::Nobody),
     }
 }
 
 // "a two-word answer slot for each"
-fn put_answer(slots: &mut [u32], i: u32, answer: Answer)
+#[tactic(auto, unfolding(crate::specs::Runs::put_told))]
+fn put_answer(slots: &mut [u32], i: usize, answer: Answer)
+    requires { 2 * i + 1 < length slots.old }
     ensures { slots.new ≡ put_told slots.old i (told_as answer) }
 {
-    let k = 2 * (i as usize);
-    let x = answers::tell(answer);
-    record::store(slots, k, x.number);
-    record::store(slots, k + 1, x.value);
-}
-
-// Whether there is a step i, and a slot for it: the bounds of both, shown to the loop.
-fn has_step(words: usize, slots: usize, i: u32) -> bool
-    ensures { result ≡ has_step words slots i }
-{
-    let k = i as usize;
-    i < 4096 && (5 * k + 4 < words && 2 * k + 1 < slots)
+    let told = Told::from(answer);
+    slots[2 * i] = told.number;
+    slots[2 * i + 1] = told.value;
 }
 
 // The steps one by one, each answered in its slot; "a refused step inside it only fills its own slot".
 pub fn turns(
-    was: Control,
+    mut control: Control,
     arena: &mut [u32],
     table: &mut [u32],
     steps: &[u32],
@@ -63,44 +98,14 @@ pub fn turns(
 ) -> Turned
     ensures { RunDoes arena.new table.new slots.new result
         (turns_from steps.now 0 4096
-        (going (lent was arena.old table.old) slots.old (Done 0))) }
+        (going (lent control arena.old table.old) slots.old (Done 0))) }
 {
-    let mut control = was;
     let mut answer = Answer::Done(0);
-    let mut i: u32 = 0;
-    while has_step(steps.len(), slots.len(), i) {
-        let s = numbers_at(steps, i);
-        let who = s.who;
-        match who {
-            0 => {
-                let passed = table::all_passed(table);
-                let mv = control.mv;
-                if acts::by_move(s.code, mv, passed) {
-                    let o = acts::advance(arena, table, mv, passed);
-                    let next = o.mv;
-                    answer = o.answer;
-                    control.mv = next;
-                } else {
-                    let o = acts::keep(control, arena, table, s.code, s.a, s.b);
-                    let next = o.control;
-                    answer = o.answer;
-                    control = next;
-                }
-            }
-            1..=8 => answer = acts::client(
-                arena,
-                table,
-                &control.dir,
-                who - 1,
-                s.code,
-                s.a,
-                s.b,
-                s.v,
-            ),
-            9..=4294967295 => answer = Answer::Refused(3),
-        }
+    let (steps, _) = steps.as_chunks();
+    let n = steps.len().min(slots.len() / 2).min(MOST);
+    for (i, step) in steps[..n].iter().enumerate() {
+        answer = turn(&mut control, arena, table, Numbers::from(*step));
         put_answer(slots, i, answer);
-        i += 1;
     }
     Turned { control, answer }
 }
