@@ -1,4 +1,4 @@
--- `turns::keep` meets its contract: ADVANCE on the move alone, or the keeper's step on the whole control record (acts, proofs/Names).
+-- `turns::keep` meets its contract: ADVANCE on the move alone, or the keeper's step on the whole control record.
 use Rattle.std.proofs.Common.{sym, ap, ◌∙◌}
 use Rattle.model.specs.State.{with_move}
 use Rattle.acts.specs.Acts.{lent}

@@ -1,4 +1,4 @@
--- `turns::turn` meets its contract: the match over who picks the party whose turn it is (acts, proofs/Names).
+-- `turns::turn` meets its contract: the match over who picks the party whose turn it is.
 use Rattle.std.proofs.Common.{◌≡◌, refl, arith}
 use Rattle.acts.specs.Acts.{lent}
 use Rattle.acts.proofs.Names.{turn_by_client, turn_by_nobody}
