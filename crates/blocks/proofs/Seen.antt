@@ -9,14 +9,14 @@ use native.Mathlib.Numerals.{add-one}
 use native.Mathlib.Omega.{arith}
 use lib.ListN.{length, take, replicate, get_or-eq_default}
 use lib.Seq.{take-length}
-use Rattle.std.specs.Prelude.{Option, None, Some, IfSome}
+use Rattle.std.specs.Prelude.{Option, None, Some}
 use Rattle.std.specs.Str.{bytes_eq}
 use Rattle.std.proofs.lemmas.Slice.Eq.{bytes_eq-Decides}
 use Rattle.model.specs.declared.Move.{Move}
 use Rattle.model.specs.declared.Stage.{Stage}
 use Rattle.model.specs.declared.Stage.TheVariants.{NoMove, FirstBarrier, Copying, SecondBarrier, ThirdBarrier}
 use Rattle.model.specs.Choice.{total}
-use Rattle.model.specs.Arena.{none, label, kind_of, cells_at, bit, used, free_cells, put_run, IsMap}
+use Rattle.model.specs.Arena.{none, cells_at, bit, used, free_cells, put_run, IsMap}
 use Rattle.model.specs.State.{stage_of, entry}
 use Rattle.model.specs.Rules.{covers, record_covers, other_covers, blocks_over, R3}
 use Rattle.model.proofs.Choice.{order, clash}
@@ -24,15 +24,9 @@ use Rattle.model.proofs.Says.{says_as, says_same, refute}
 use Rattle.model.proofs.Readings.{says_r3}
 use Rattle.model.proofs.Bits.{no_bit}
 use Rattle.model.proofs.CellMap.{used_lt, used_run, used_run_other, run_map, fresh_map, fresh_free, free_cells_lem, cells_free, map_ext}
-use Rattle.model.proofs.ByKind.{cells_short}
 use Rattle.model.proofs.Covers.{covers_in, covers_out}
-use Rattle.blocks.specs.declared.Block.{Block}
-use Rattle.blocks.specs.Other.{other_block}
+use Rattle.blocks.specs.Other.{other_start}
 use Rattle.blocks.proofs.Covers.{record_covers_lem, total_more, total_part}
-
--- a record's cells fit a mask
-pub cells_small : (arena : List ℕ) (c : ℕ) → cells_at arena c < 64
-cells_small arena c = cells_short (kind_of (label arena c))
 
 -- past the map's end nothing is used
 used_past : (m : List ℕ) (x : ℕ) → IsMap m → 1024 ≤ x → used m x ≡ 0
@@ -105,41 +99,36 @@ module _ (dir map : List ℕ) (v : Move) (arena seen : List ℕ) (i c : ℕ) (h 
       omega (arith, s.at x hx, record_covers_lem arena x c hx, rw (sym e) at part))
       ((says_r3 dir map v arena).holds r))
 
--- what a block covers, if there is one
-abbrev pub block_covers : Option Block → ℕ → ℕ
-block_covers None x = 0
-block_covers (Some b) x = covers b.start b.cells x
+-- what a block of n cells covers, if there is one
+abbrev pub block_covers : Option ℕ → ℕ → ℕ → ℕ
+block_covers None n x = 0
+block_covers (Some c) n x = covers c n x
 
--- the move's other block covers what the rule says, and fits a mask
-other_covers_lem : (v : Move) (arena : List ℕ) (g : Stage) (x : ℕ) → other_covers g v arena x ≡ block_covers (other_block g v arena) x
+-- the move's other block covers what the rule says
+other_covers_lem : (v : Move) (arena : List ℕ) (g : Stage) (x : ℕ)
+    → other_covers g v arena x ≡ block_covers (other_start g v) (cells_at arena v.from) x
 other_covers_lem v arena NoMove x = refl
 other_covers_lem v arena FirstBarrier x = refl
 other_covers_lem v arena Copying x = refl
 other_covers_lem v arena SecondBarrier x = refl
 other_covers_lem v arena ThirdBarrier x = refl
 
-pub other_small : (v : Move) (arena : List ℕ) (g : Stage) → IfSome (other_block g v arena) (λ b. b.cells < 64)
-other_small v arena NoMove = tt
-other_small v arena FirstBarrier = cells_small arena v.from
-other_small v arena Copying = cells_small arena v.from
-other_small v arena SecondBarrier = cells_small arena v.from
-other_small v arena ThirdBarrier = cells_small arena v.from
-
--- the end of the walk: o is the move's other block
+-- the end of the walk: o is where the move's other block starts
 module _ (dir map : List ℕ) (v : Move) (arena seen : List ℕ) (i : ℕ) (hm : IsMap map) (end : i ≡ length dir) (s : Seen dir arena i seen)
-    (o : Option Block) (eo : o ≡ other_block (stage_of v.stage) v arena) where
-  all_blocks : (x : ℕ) → x < 1024 → used seen x + block_covers o x ≡ blocks_over dir v arena x
+    (o : Option ℕ) (eo : o ≡ other_start (stage_of v.stage) v) where
+  all_blocks : (x : ℕ) → x < 1024 → used seen x + block_covers o (cells_at arena v.from) x ≡ blocks_over dir v arena x
   unfolding blocks_over
   all_blocks x hx =
       let add : ℕ → ℕ = record_covers arena x in
       let whole : total add (take i dir) ≡ total add dir =
       ap (λ (j : ℕ). total add (take j dir)) end ∙ ap (total add) (take-length dir) in
-      let other : other_covers (stage_of v.stage) v arena x ≡ block_covers o x =
-      other_covers_lem v arena (stage_of v.stage) x ∙ ap (λ (o : Option Block). block_covers o x) (sym eo) in
+      let other : other_covers (stage_of v.stage) v arena x ≡ block_covers o (cells_at arena v.from) x =
+      other_covers_lem v arena (stage_of v.stage) x ∙ ap (λ (o : Option ℕ). block_covers o (cells_at arena v.from) x) (sym eo) in
       omega (arith, s.at x hx)
 
   -- a map that is used where blocks lie is the map where R3 holds
-  pub map_decides : (built : List ℕ) → IsMap built → ((x : ℕ) → x < 1024 → used built x ≡ used seen x + block_covers o x)
+  pub map_decides : (built : List ℕ) → IsMap built
+      → ((x : ℕ) → x < 1024 → used built x ≡ used seen x + block_covers o (cells_at arena v.from) x)
       → bytes_eq built map ≡ R3 dir map v arena
   map_decides built hb at =
       let same = bytes_eq-Decides built map in
@@ -149,17 +138,18 @@ module _ (dir map : List ℕ) (v : Move) (arena seen : List ℕ) (i : ℕ) (hm :
       (says_r3 dir map v arena)
 
 module _ (dir map : List ℕ) (v : Move) (arena seen : List ℕ) (i : ℕ) (hm : IsMap map) (end : i ≡ length dir) (s : Seen dir arena i seen) where
-  pub end_none : None ≡ other_block (stage_of v.stage) v arena → bytes_eq seen map ≡ R3 dir map v arena
+  pub end_none : None ≡ other_start (stage_of v.stage) v → bytes_eq seen map ≡ R3 dir map v arena
   end_none e = map_decides dir map v arena seen i hm end s None e seen s.map (λ x hx. omega arith)
 
-  module _ (b : Block) (e : Some b ≡ other_block (stage_of v.stage) v arena) where
-    pub end_same : free_cells seen b.start b.cells ≡ true → bytes_eq (put_run seen b.start b.cells 1) map ≡ R3 dir map v arena
+  module _ (c : ℕ) (e : Some c ≡ other_start (stage_of v.stage) v) where
+    pub end_same : free_cells seen c (cells_at arena v.from) ≡ true
+        → bytes_eq (put_run seen c (cells_at arena v.from) 1) map ≡ R3 dir map v arena
     end_same f =
-        map_decides dir map v arena seen i hm end s (Some b) e (put_run seen b.start b.cells 1)
-        (run_map seen b.start b.cells 1 s.map (omega arith)) (λ x hx. laid_at seen b.start b.cells x s.map hx f)
+        map_decides dir map v arena seen i hm end s (Some c) e (put_run seen c (cells_at arena v.from) 1)
+        (run_map seen c (cells_at arena v.from) 1 s.map (omega arith)) (λ x hx. laid_at seen c (cells_at arena v.from) x s.map hx f)
 
-    pub end_stops : free_cells seen b.start b.cells ≡ false → R3 dir map v arena ≡ false
+    pub end_stops : free_cells seen c (cells_at arena v.from) ≡ false → R3 dir map v arena ≡ false
     end_stops f =
         refute (R3 dir map v arena) (λ r.
-        met seen map b.start b.cells s.map f (λ x hx. omega (arith, all_blocks dir map v arena seen i hm end s (Some b) e x hx))
+        met seen map c (cells_at arena v.from) s.map f (λ x hx. omega (arith, all_blocks dir map v arena seen i hm end s (Some c) e x hx))
         ((says_r3 dir map v arena).holds r))

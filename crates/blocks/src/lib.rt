@@ -2,23 +2,16 @@
 // Total over any contents; knows nothing of clients, and nothing of the other rules.
 #![tactic(auto)]
 
-ghost use Rattle.std.specs.Prelude.{◌≡◌, ◌<◌};
+ghost use Rattle.std.specs.Prelude.{◌≡◌};
 ghost use Rattle.model.specs.Arena.{cells_at, free_cells, put_run};
 ghost use Rattle.model.specs.State.{stage_of};
 ghost use Rattle.model.specs.Rules.{early, late, R3};
-ghost use Rattle.blocks.specs.Other.{other_block};
+ghost use Rattle.blocks.specs.Other.{other_start};
 
-use cells::Cell;
+use cells::{Cell, Run};
 use model::{Move, Stage};
 
-const CELLS: u32 = 1024;
-
-// The start and the cells of a block.
-#[derive(Clone, Copy)]
-pub struct Block {
-    pub start: u32,
-    pub cells: u32,
-}
+const CELLS: u16 = 1024;
 
 // "its first three stages"; "the third barrier"
 pub fn is_early(stage: u32) -> bool
@@ -36,44 +29,32 @@ pub fn is_late(stage: u32) -> bool
     Stage::from(stage) == Stage::ThirdBarrier
 }
 
-// A block's cells are laid into the map; whether all were free.
-fn lay_block(seen: &mut [u64; 16], block: Block) -> bool
-    requires { block.cells < 64 }
-    ensures free { result ≡ free_cells seen.old block.start block.cells }
-    ensures laid { seen.new ≡ put_run seen.old block.start block.cells 1 }
-{
-    let free = cells::is_free(seen, block.start, block.cells);
-    cells::put_run(seen, block.start, block.cells, Cell::Used);
-    free
-}
-
-// The block of the record at cell c is laid; whether all its cells were free. An absent entry is no cell, and lays none.
-fn lay_record(seen: &mut [u64; 16], arena: &[u32], c: u32) -> bool
-    ensures free { result ≡ free_cells seen.old c (cells_at arena.now c) }
-    ensures laid { seen.new ≡ put_run seen.old c (cells_at arena.now c) 1 }
+// The block at cell c that is as long as the record at `from` is laid into the map; whether all its cells were free.
+// An absent entry is no cell, and lays none.
+fn lay_block(seen: &mut [u64; 16], arena: &[u32], from: u16, c: u16) -> bool
+    ensures free { result ≡ free_cells seen.old c (cells_at arena.now from) }
+    ensures laid { seen.new ≡ put_run seen.old c (cells_at arena.now from) 1 }
 {
     if CELLS <= c {
         return true;
     }
-    let cells = record::lengths_at(arena, c).cells;
-    lay_block(seen, Block { start: c, cells })
+    let run = Run {
+        start: c as u32,
+        cells: record::lengths_at(arena, from as u32).cells,
+    };
+    let free = run.is_free(seen);
+    run.put(seen, Cell::Used);
+    free
 }
 
-// "the move's other block": the target in the first three stages, the old one in the third barrier.
-fn other_block(mv: Move, arena: &[u32]) -> Option<Block>
-    ensures { result ≡ other_block (stage_of mv.stage) mv arena.now }
+// Where "the move's other block" starts: "the target in the first three stages, the old one in the third barrier".
+fn other_start(mv: Move) -> Option<u16>
+    ensures { result ≡ other_start (stage_of mv.stage) mv }
 {
-    let cells = record::lengths_at(arena, mv.from as u32).cells;
     match Stage::from(mv.stage) {
         Stage::NoMove => None,
-        Stage::FirstBarrier | Stage::Copying | Stage::SecondBarrier => Some(Block {
-            start: mv.target as u32,
-            cells,
-        }),
-        Stage::ThirdBarrier => Some(Block {
-            start: mv.from as u32,
-            cells,
-        }),
+        Stage::FirstBarrier | Stage::Copying | Stage::SecondBarrier => Some(mv.target),
+        Stage::ThirdBarrier => Some(mv.from),
     }
 }
 
@@ -83,12 +64,12 @@ pub fn cells_right(dir: &[u16; 256], map: &[u64; 16], mv: Move, arena: &[u32]) -
 {
     let mut seen = [0; 16];
     for &c in dir {
-        if !lay_record(&mut seen, arena, c as u32) {
+        if !lay_block(&mut seen, arena, c, c) {
             return false;
         }
     }
-    match other_block(mv, arena) {
-        Some(block) => lay_block(&mut seen, block) && seen == *map,
+    match other_start(mv) {
+        Some(c) => lay_block(&mut seen, arena, mv.from, c) && seen == *map,
         None => seen == *map,
     }
 }

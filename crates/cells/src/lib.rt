@@ -2,7 +2,7 @@
 // Knows nothing of records: what lies outside the 1,024 cells is free and stays so.
 #![tactic(auto)]
 
-ghost use Rattle.std.specs.Prelude.{◌≡◌, ◌<◌, ◌≤◌};
+ghost use Rattle.std.specs.Prelude.{◌≡◌, ◌%◌, ◌<◌};
 ghost use Rattle.model.specs.Arena.{put_run, free_cells, fill, lowest_run};
 ghost use Rattle.cells.specs.Words.{low_mask, high_mask, bit_of, masked, word_put, free_word, sought, NextCell, found};
 
@@ -17,20 +17,53 @@ pub enum Cell {
     Used,
 }
 
-// n ones from bit k on: those of the word itself.
-fn low_mask(k: u32, n: u32) -> u64
-    requires { (k < 64) × (n < 64) }
-    ensures { result ≡ low_mask k n }
-{
-    ((1u64 << n) - 1) << k
+// The cells from `start` on, fewer than a word of the map has bits: they lie in two words at most.
+#[derive(Clone, Copy)]
+pub struct Run {
+    pub start: u32,
+    pub cells: u32,
+    pub ghost short: { cells < 64 },
 }
 
-// Those that run over into the next word.
-fn high_mask(k: u32, n: u32) -> u64
-    requires { (k < 64) × (n < 64) }
-    ensures { result ≡ high_mask k n }
+impl Run {
+    // The ones that lie in the word of its start.
+    fn low_mask(self) -> u64
+        ensures { result ≡ low_mask (self.start % 64) self.cells }
+    {
+        ((1u64 << self.cells) - 1) << (self.start % 64)
+    }
+
+    // Those that run over into the next word.
+    fn high_mask(self) -> u64
+        ensures { result ≡ high_mask (self.start % 64) self.cells }
+    {
+        (((1u64 << self.cells) - 1) >> 1) >> (63 - self.start % 64)
+    }
+
+    // "Its cells become used"; "cells free".
+    pub fn put(self, map: &mut [u64; 16], to: Cell)
+        ensures { map.new ≡ put_run map.old self.start self.cells (bit_of to) }
+    {
+        let w = (self.start / 64) as usize;
+        put_word(map, w, self.low_mask(), to);
+        put_word(map, w + 1, self.high_mask(), to);
+    }
+
+    // Its cells are free.
+    pub fn is_free(self, map: &[u64; 16]) -> bool
+        ensures { result ≡ free_cells map.now self.start self.cells }
+    {
+        let w = (self.start / 64) as usize;
+        is_free_word(map, w, self.low_mask()) && is_free_word(map, w + 1, self.high_mask())
+    }
+}
+
+// A run put by its numbers.
+pub fn put_run(map: &mut [u64; 16], c: u32, n: u32, to: Cell)
+    requires { n < 64 }
+    ensures { map.new ≡ put_run map.old c n (bit_of to) }
 {
-    (((1u64 << n) - 1) >> 1) >> (63 - k)
+    Run { start: c, cells: n }.put(map, to);
 }
 
 // The word with the mask's ones put.
@@ -52,30 +85,11 @@ fn put_word(map: &mut [u64; 16], w: usize, mask: u64, to: Cell)
     }
 }
 
-// "Its cells become used"; "cells free": the n cells from c on. At most two words change.
-pub fn put_run(map: &mut [u64; 16], c: u32, n: u32, to: Cell)
-    requires { n < 64 }
-    ensures { map.new ≡ put_run map.old c n (bit_of to) }
-{
-    let w = (c / 64) as usize;
-    put_word(map, w, low_mask(c % 64, n), to);
-    put_word(map, w + 1, high_mask(c % 64, n), to);
-}
-
 // No cell of the mask is used in word w; past the map's end none is.
 fn is_free_word(map: &[u64; 16], w: usize, mask: u64) -> bool
     ensures { result ≡ free_word map.now w mask }
 {
     map.get(w).copied().unwrap_or(0) & mask == 0
-}
-
-// The n cells from c on are free.
-pub fn is_free(map: &[u64; 16], c: u32, n: u32) -> bool
-    requires { n < 64 }
-    ensures { result ≡ free_cells map.now c n }
-{
-    let w = (c / 64) as usize;
-    is_free_word(map, w, low_mask(c % 64, n)) && is_free_word(map, w + 1, high_mask(c % 64, n))
 }
 
 // "Fill is the number of used cells, by counting the map's ones."

@@ -1,0 +1,9 @@
+-- `high_mask`: `1 << cells` is 2 ^ cells, since the run is short.
+use Rattle.std.proofs.Common.{arith}
+use Rattle.cells.specs.Words.{high_mask}
+use Rattle.cells.proofs.Masks.{one_shl}
+use Rattle.cells.proofs.Run.high_mask.Goals as goal
+
+pub returns : goal.returns
+unfolding high_mask
+returns c = simp (one_shl c.args.self.cells (omega arith))
