@@ -6,8 +6,8 @@ use native.Mathlib.Omega.{arith}
 use lib.ListN.{length, length-append}
 use Rattle.model.specs.Arena.{laid}
 use Rattle.model.proofs.Records.{laid_none, laid_append}
-use Rattle.wire.specs.Bytes.{bytes, all_bytes}
-use Rattle.wire.proofs.Bytes.{length_all, length_bytes, all_one}
+use Rattle.wire.specs.Bytes.{bytes, all_bytes, length_bytes}
+use Rattle.wire.proofs.Bytes.{length_all, all_one}
 use Rattle.buffer.specs.Buffer.{Part, joined}
 
 -- the bytes of some parts

@@ -1,100 +1,87 @@
 // Control record, arena and client table in one buffer of bytes (docs/LAYOUT.md): decoded and encoded.
-// Knows nothing of calls and refusals: it takes any contents. Each `requires` is a size that the exported calls have tested.
+// Knows nothing of calls and refusals: it takes any contents.
 #![tactic(auto)]
 
-ghost use Rattle.std.specs.Prelude.{◌≡◌, length};
+ghost use Rattle.std.specs.Prelude.{◌≡◌};
 ghost use Rattle.model.specs.Arena.{laid};
-ghost use Rattle.buffer.specs.Buffer.{move_in, control_in, joined, move_parts, count_parts, control_parts, bytes_in, Decoded};
+ghost use Rattle.buffer.specs.Buffer.{move_in, control_in, joined, move_parts, count_parts, bytes_in, Decoded};
 
 use model::{Control, Move};
+use wire::{Number, numbers_in, numbers_out};
+
+// One fixed size in bytes: the control record, 8,192 words of the arena, eight rows of twelve words.
+pub const SIZE: usize = 668 + 4 * 8192 + 4 * 96;
 
 // "the move in hand (stage, meter, old cell called from, target cell, words copied ..)", from its 16 bytes.
-fn move_in(b: &[u8]) -> Move
-    requires { length b.now ≡ 33820 }
+#[tactic(auto, unfolding(crate::specs::Buffer::move_in))]
+fn move_in(b: &[u8; SIZE]) -> Move
     ensures { result ≡ move_in b.now }
 {
     Move {
-        stage: wire::get4(b, 640),
-        meter: wire::get4(b, 644),
-        from: wire::get2(b, 648),
-        target: wire::get2(b, 650),
-        copied: wire::get4(b, 652),
+        stage: u32::get(b, 640),
+        meter: u32::get(b, 644),
+        from: u16::get(b, 648),
+        target: u16::get(b, 650),
+        copied: u32::get(b, 652),
     }
 }
 
 // The control record: directory, map, move and counts, one behind the other.
-fn control_in(b: &[u8]) -> Control
-    requires { length b.now ≡ 33820 }
+#[tactic(auto, unfolding(crate::specs::Buffer::control_in))]
+fn control_in(b: &[u8; SIZE]) -> Control
     ensures { result ≡ control_in b.now }
 {
-    let dir = wire::halves_in(b, 0);
-    let map = wire::longs_in(b, 512);
-    let mv = move_in(b);
-    let begun = wire::get4(b, 656);
-    let committed = wire::get4(b, 660);
-    let aborted = wire::get4(b, 664);
+    let mut dir = [0; 256];
+    let mut map = [0; 16];
+    numbers_in(b, 0, &mut dir);
+    numbers_in(b, 512, &mut map);
     Control {
         dir,
         map,
-        mv,
-        begun,
-        committed,
-        aborted,
+        mv: move_in(b),
+        begun: u32::get(b, 656),
+        committed: u32::get(b, 660),
+        aborted: u32::get(b, 664),
     }
 }
 
 // The move in hand, into its 16 bytes.
-fn move_out(b: &mut [u8], mv: Move)
-    requires { length b.old ≡ 33820 }
+fn move_out(b: &mut [u8; SIZE], mv: Move)
     ensures { b.new ≡ laid b.old 640 (joined (move_parts mv)) }
 {
-    wire::put4(b, 640, mv.stage);
-    wire::put4(b, 644, mv.meter);
-    wire::put2(b, 648, mv.from);
-    wire::put2(b, 650, mv.target);
-    wire::put4(b, 652, mv.copied);
+    mv.stage.put(b, 640);
+    mv.meter.put(b, 644);
+    mv.from.put(b, 648);
+    mv.target.put(b, 650);
+    mv.copied.put(b, 652);
 }
 
 // "the counts begun, committed, aborted (32 bits)", into their 12 bytes.
-fn counts_out(b: &mut [u8], control: Control)
-    requires { length b.old ≡ 33820 }
-    ensures { b.new ≡ laid b.old 656 (joined (count_parts control)) }
+fn counts_out(b: &mut [u8; SIZE], control: &Control)
+    ensures { b.new ≡ laid b.old 656 (joined (count_parts control.now)) }
 {
-    wire::put4(b, 656, control.begun);
-    wire::put4(b, 660, control.committed);
-    wire::put4(b, 664, control.aborted);
+    control.begun.put(b, 656);
+    control.committed.put(b, 660);
+    control.aborted.put(b, 664);
 }
 
-// The control record, into its 668 bytes.
-fn control_out(b: &mut [u8], control: Control)
-    requires { length b.old ≡ 33820 }
-    ensures { b.new ≡ laid b.old 0 (joined (control_parts control)) }
+// Every byte of the buffer: the control record in 668, then each word of arena and table.
+pub fn state_out(b: &mut [u8; SIZE], control: &Control, arena: &[u32; 8192], table: &[u32; 96])
+    ensures { b.new ≡ bytes_in control.now arena.now table.now }
 {
-    let dir = control.dir;
-    let map = control.map;
-    let mv = control.mv;
-    wire::halves_out(b, 0, dir);
-    wire::longs_out(b, 512, map);
-    move_out(b, mv);
+    numbers_out(b, 0, &control.dir);
+    numbers_out(b, 512, &control.map);
+    move_out(b, control.mv);
     counts_out(b, control);
-}
-
-// Every byte of the buffer.
-pub fn state_out(b: &mut [u8], control: Control, arena: &[u32], table: &[u32])
-    requires { (length b.old ≡ 33820) × (length arena.now ≡ 8192) × (length table.now ≡ 96) }
-    ensures { b.new ≡ bytes_in control arena.now table.now }
-{
-    control_out(b, control);
-    wire::words_out(b, 668, arena);
-    wire::words_out(b, 33436, table);
+    numbers_out(b, 668, arena);
+    numbers_out(b, 33436, table);
 }
 
 // Every byte is read: the control record by value, arena and table into words.
-pub fn state_in(b: &[u8], arena: &mut [u32], table: &mut [u32]) -> Control
-    requires { (length b.now ≡ 33820) × (length arena.old ≡ 8192) × (length table.old ≡ 96) }
+pub fn state_in(b: &[u8; SIZE], arena: &mut [u32; 8192], table: &mut [u32; 96]) -> Control
     ensures { Decoded result arena.new table.new b.now }
 {
-    wire::words_in(b, 668, arena);
-    wire::words_in(b, 33436, table);
+    numbers_in(b, 668, arena);
+    numbers_in(b, 33436, table);
     control_in(b)
 }

@@ -1,12 +1,15 @@
 -- What the exported calls give: the result, every byte of the buffer and, by a run, of the slots. include/tangvrak.h declares them.
 use Rattle.std.specs.Prelude.{Bool, not, List, [], ◌∷◌, ◌≡◌, ℕ, ◌+◌, ◌*◌, ◌/◌, ◌%◌, ◌^◌, eqb, leb, length}
+use Rattle.std.specs.Borrow.{Bor, MutBor}
+use Rattle.model.specs.declared.Control.{Control}
 use Rattle.model.specs.declared.Answer.{Answer}
 use Rattle.model.specs.declared.Answer.TheVariants.{Refused}
 use Rattle.model.specs.Choice.{pick, ◌and◌, ◌if◌, refuse}
 use Rattle.model.specs.State.{State, Outcome, number, value}
 use Rattle.model.specs.Steps.{Step, refused, fresh_call, step_call, fill_call, audit_call, run_call, Ran, ran}
 use Rattle.wire.specs.Bytes.{numbers, all_bytes}
-use Rattle.archive.specs.Does.{is_refused}
+use Rattle.archive.specs.declared.Reply.{Reply}
+use Rattle.archive.specs.Does.{meant, is_refused, CallDoes, LookDoes}
 use Rattle.buffer.specs.Buffer.{buffer_size, state_in, bytes_of}
 
 -- answer and value in one number
@@ -74,6 +77,17 @@ run_bytes b steps slots =
     (run_on b steps slots (length steps / 4) (length slots / 4)))
 
 -- What the functions do
+
+-- an archive's function does what the model's call does: with what `post` says of its result and of what it leaves of arena and table,
+-- or of its result alone where these are lent to read
+abbrev pub Writes : (Control → MutBor (List ℕ) → MutBor (List ℕ) → Reply → MutBor (List ℕ) → MutBor (List ℕ) → Type 0) → (State → Outcome) → Type 0
+Writes post does =
+    (c : Control) (a t : MutBor (List ℕ)) (r : Reply) (b u : MutBor (List ℕ)) → post c a t r b u
+    → CallDoes t.now r b.now u.now (does (meant c a.now t.now))
+
+abbrev pub Looks : (Control → Bor (List ℕ) → Bor (List ℕ) → Reply → Type 0) → (State → Outcome) → Type 0
+Looks post does = (c : Control) (a t : Bor (List ℕ)) (r : Reply) → post c a t r → LookDoes r (does (meant c a.now t.now))
+
 pub record Finishes (r : ℕ) (b before : List ℕ) (x : Answer) (after : List ℕ) : Type 0 where
   pub result : r ≡ coded x
   pub bytes : b ≡ kept x before after

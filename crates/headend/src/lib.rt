@@ -3,62 +3,99 @@
 #![tactic(auto)]
 
 ghost use Rattle.std.specs.Prelude.{◌≡◌, ◌*◌, length};
+ghost use Rattle.model.specs.State.{State, Outcome};
 ghost use Rattle.model.specs.Steps.{step};
 ghost use Rattle.wire.specs.Bytes.{all_bytes};
 ghost use Rattle.archive.specs.Does.{is_refused};
 ghost use Rattle.buffer.specs.Buffer.{bytes_in};
-ghost use Rattle.headend.specs.Exported.{coded, kept, fresh_bytes, step_bytes, fill_result, audit_result, run_bytes_fit, run_on, run_bytes};
-ghost use Rattle.headend.specs.Exported.{ran_bytes, CallGives, RunGives, Finishes};
+ghost use Rattle.headend.specs.Exported.{coded, kept, exported, fresh_bytes, step_bytes, fill_result, audit_result, run_bytes_fit, run_on, run_bytes};
+ghost use Rattle.headend.specs.Exported.{ran_bytes, Writes, Looks, CallGives, RunGives, Finishes};
 
-use model::{Answer, Control};
+use answers::Told;
+use archive::Reply;
+use buffer::SIZE;
+use model::{Answer, Control, Reason};
+use wire::{numbers_in, numbers_out};
 
-// One fixed size in bytes: control record 668, arena 4 × 8,192, table 8 × 48.
-const BUFFER: usize = 33820;
-
-// Answer and value in one number: answer × 2^32 + value.
+// Answer and value in one number: answer × 2^32 + value. No `From` may stand here: `Answer` and `u64` are both of other crates.
+#[tactic(auto, unfolding(crate::specs::Exported::coded))]
 fn coded(answer: Answer) -> u64
     ensures { result ≡ coded answer }
 {
-    let told = answers::tell(answer);
-    (told.number as u64) * 4294967296 + (told.value as u64)
+    let told = Told::from(answer);
+    u64::from(told.number) * 4294967296 + u64::from(told.value)
 }
 
-// Numbers of refusal are below 20.
+// Numbers of refusal are below 20. By the number, as the contracts and C have it: no contract says that a `Refused` holds a lower one.
 fn is_refused(answer: Answer) -> bool
     ensures { result ≡ is_refused answer }
 {
-    let told = answers::tell(answer);
-    told.number < 20
+    Told::from(answer).number < 20
+}
+
+// "A wrong size gets 1."
+fn wrong_size() -> u64
+    ensures { result ≡ coded (Answer.Refused 1) }
+{
+    coded(Reason::WrongSizes.into())
 }
 
 // A refused call writes no byte of the buffer.
-fn finish(b: &mut [u8], control: Control, arena: &[u32], table: &[u32], answer: Answer) -> u64
-    requires { (length b.old ≡ 33820) × (length arena.now ≡ 8192) × (length table.now ≡ 96) }
-    ensures { Finishes result b.new b.old answer
-        (bytes_in control arena.now table.now) }
+#[inline]
+fn finish(
+    b: &mut [u8; SIZE],
+    answer: Answer,
+    control: &Control,
+    arena: &[u32; 8192],
+    table: &[u32; 96],
+) -> u64
+    ensures { Finishes result b.new b.old answer (bytes_in control.now arena.now table.now) }
 {
-    if is_refused(answer) {
-        return coded(answer);
+    if !is_refused(answer) {
+        buffer::state_out(b, control, arena, table);
     }
-    buffer::state_out(b, control, arena, table);
     coded(answer)
 }
 
-// "Fresh zeroes the arena, empties the directory, map and counts, and leaves eight unattached rows"; "A wrong size gets 1."
+// A call that may change what the bytes mean.
+fn called<F: FnOnce(Control, &mut [u32], &mut [u32]) -> Reply>(buffer: &mut [u8], call: F) -> u64
+    ghost does: { State → Outcome }
+    requires callable { F.IsAlwaysCallable call }
+    requires met { Writes (F.post call) does }
+    ensures { CallGives result buffer.new (exported buffer.old does) }
+{
+    let Some(b) = buffer.as_mut_array() else {
+        return wrong_size();
+    };
+    let mut arena = [0; 8192];
+    let mut table = [0; 96];
+    let control = buffer::state_in(b, &mut arena, &mut table);
+    let reply = call(control, &mut arena, &mut table);
+    finish(b, reply.answer, &reply.control, &arena, &table)
+}
+
+// A call that only looks.
+fn looked<F: FnOnce(Control, &[u32], &[u32]) -> Reply>(buffer: &[u8], look: F) -> u64
+    ghost does: { State → Outcome }
+    requires callable { F.IsAlwaysCallable look }
+    requires met { Looks (F.post look) does }
+    ensures { result ≡ (exported buffer.now does).result }
+{
+    let Some(b) = buffer.as_array() else {
+        return wrong_size();
+    };
+    let mut arena = [0; 8192];
+    let mut table = [0; 96];
+    let control = buffer::state_in(b, &mut arena, &mut table);
+    coded(look(control, &arena, &table).answer)
+}
+
+// "Fresh zeroes the arena, empties the directory, map and counts, and leaves eight unattached rows"
 #[unsafe(no_mangle)]
 pub extern "C" fn tangvrak_fresh(buffer: &mut [u8]) -> u64
     ensures { CallGives result buffer.new (fresh_bytes buffer.old) }
 {
-    if buffer.len() != BUFFER {
-        return coded(Answer::Refused(1));
-    }
-    let mut arena = [0u32; 8192];
-    let mut table = [0u32; 96];
-    let was = buffer::state_in(buffer, &mut arena, &mut table);
-    let o = archive::fresh(was, &mut arena, &mut table);
-    let control = o.control;
-    let answer = o.answer;
-    finish(buffer, control, &arena, &table, answer)
+    called(buffer, archive::fresh)
 }
 
 // One step: "A step is five numbers: who, code, a, b, v."
@@ -73,16 +110,9 @@ pub extern "C" fn tangvrak_step(
 ) -> u64
     ensures { CallGives result buffer.new (step_bytes buffer.old (step who code a b v)) }
 {
-    if buffer.len() != BUFFER {
-        return coded(Answer::Refused(1));
-    }
-    let mut arena = [0u32; 8192];
-    let mut table = [0u32; 96];
-    let was = buffer::state_in(buffer, &mut arena, &mut table);
-    let o = archive::step(was, &mut arena, &mut table, who, code, a, b, v);
-    let control = o.control;
-    let answer = o.answer;
-    finish(buffer, control, &arena, &table, answer)
+    called(buffer, move |control, arena, table| {
+        archive::step(control, arena, table, who, code, a, b, v)
+    })
 }
 
 // "Fill is the number of used cells": 30 with the figure.
@@ -90,15 +120,7 @@ pub extern "C" fn tangvrak_step(
 pub extern "C" fn tangvrak_fill(buffer: &[u8]) -> u64
     ensures { result ≡ fill_result buffer.now }
 {
-    if buffer.len() != BUFFER {
-        return coded(Answer::Refused(1));
-    }
-    let mut arena = [0u32; 8192];
-    let mut table = [0u32; 96];
-    let control = buffer::state_in(buffer, &mut arena, &mut table);
-    let o = archive::fill(control, &arena, &table);
-    let answer = o.answer;
-    coded(answer)
+    looked(buffer, archive::fill)
 }
 
 // "Audit's value, beside answer 30, is 0 or the number of the first broken rule."
@@ -106,15 +128,7 @@ pub extern "C" fn tangvrak_fill(buffer: &[u8]) -> u64
 pub extern "C" fn tangvrak_audit(buffer: &[u8]) -> u64
     ensures { result ≡ audit_result buffer.now }
 {
-    if buffer.len() != BUFFER {
-        return coded(Answer::Refused(1));
-    }
-    let mut arena = [0u32; 8192];
-    let mut table = [0u32; 96];
-    let control = buffer::state_in(buffer, &mut arena, &mut table);
-    let o = archive::audit(control, &arena, &table);
-    let answer = o.answer;
-    coded(answer)
+    looked(buffer, archive::audit)
 }
 
 // "1 or 2 refuses the whole run and writes no answers"
@@ -122,49 +136,41 @@ fn slots_out(slots: &mut [u8], answers: &[u32], answer: Answer)
     requires { length slots.old ≡ 4 * length answers.now }
     ensures { slots.new ≡ kept answer slots.old (all_bytes 4 answers.now) }
 {
-    if is_refused(answer) {
-        return;
+    if !is_refused(answer) {
+        numbers_out(slots, 0, answers);
     }
-    wire::words_out(slots, 0, answers);
 }
 
 // 20 bytes a step, 8 bytes a slot.
+#[tactic(auto, unfolding(crate::specs::Exported::run_bytes_fit))]
 fn run_fits(steps: usize, slots: usize) -> bool
     ensures { result ≡ run_bytes_fit steps slots }
 {
-    if 81920 < steps {
-        return false;
-    }
-    if steps % 20 != 0 {
-        return false;
-    }
-    slots == 8 * (steps / 20)
+    steps <= 81920 && steps % 20 == 0 && slots == 8 * (steps / 20)
 }
 
 // The run, where all sizes fit: steps and slots are read into `words` and `answers`, as many words as they have.
 fn run_words(
-    buffer: &mut [u8],
+    b: &mut [u8; SIZE],
     steps: &[u8],
     slots: &mut [u8],
     words: &mut [u32],
     answers: &mut [u32],
 ) -> u64
-    requires { (length buffer.old ≡ 33820) × (length steps.now ≡ 4 * length words.old)
+    requires { (length steps.now ≡ 4 * length words.old)
         × (length slots.old ≡ 4 * length answers.old) }
-    ensures { RunGives result buffer.new slots.new (ran_bytes buffer.old slots.old
-        (run_on buffer.old steps.now slots.old (length words.old)
+    ensures { RunGives result b.new slots.new (ran_bytes b.old slots.old
+        (run_on b.old steps.now slots.old (length words.old)
         (length answers.old))) }
 {
-    let mut arena = [0u32; 8192];
-    let mut table = [0u32; 96];
-    let was = buffer::state_in(buffer, &mut arena, &mut table);
-    wire::words_in(steps, 0, words);
-    wire::words_in(slots, 0, answers);
-    let o = archive::run(was, &mut arena, &mut table, words, answers);
-    let control = o.control;
-    let answer = o.answer;
-    slots_out(slots, answers, answer);
-    finish(buffer, control, &arena, &table, answer)
+    let mut arena = [0; 8192];
+    let mut table = [0; 96];
+    let control = buffer::state_in(b, &mut arena, &mut table);
+    numbers_in(steps, 0, words);
+    numbers_in(slots, 0, answers);
+    let reply = archive::run(control, &mut arena, &mut table, words, answers);
+    slots_out(slots, answers, reply.answer);
+    finish(b, reply.answer, &reply.control, &arena, &table)
 }
 
 // "A run of up to 4,096 steps (five words each, with a two-word answer slot for each; any other sizes are refused by 1) checks
@@ -174,15 +180,15 @@ pub extern "C" fn tangvrak_run(buffer: &mut [u8], steps: &[u8], slots: &mut [u8]
     ensures { RunGives result buffer.new slots.new
         (run_bytes buffer.old steps.now slots.old) }
 {
-    if buffer.len() != BUFFER {
-        return coded(Answer::Refused(1));
-    }
+    let Some(b) = buffer.as_mut_array() else {
+        return wrong_size();
+    };
     if !run_fits(steps.len(), slots.len()) {
-        return coded(Answer::Refused(1));
+        return wrong_size();
     }
-    let mut words = [0u32; 20480];
-    let mut answers = [0u32; 8192];
+    let mut words = [0; 20480];
+    let mut answers = [0; 8192];
     let n = steps.len() / 4;
     let m = slots.len() / 4;
-    run_words(buffer, steps, slots, &mut words[..n], &mut answers[..m])
+    run_words(b, steps, slots, &mut words[..n], &mut answers[..m])
 }

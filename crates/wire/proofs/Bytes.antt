@@ -1,105 +1,125 @@
--- Laws of numbers in bytes, each once over the number of bytes. Assumes nothing.
-use mathlib.Core.Path.{◌≡◌, refl, sym, ap, ◌∙◌}
-use mathlib.Core.List.{List, [], ◌∷◌, ◌++◌, append_assoc, append-nil}
-use Prim.Native.Nat.{ℕ, zero, suc, ◌+◌, ◌*◌, ◌/◌, ◌%◌, ◌^◌, ◌<◌}
-use native.Mathlib.Nat.{pow-suc, mul_comm, mul_assoc, add-zero, zero-add, suc-add, div-one, mul-suc, mul-zero}
+-- Laws of numbers in bytes, each once over the number of bytes, and of lists of numbers, each once over any number. Assumes nothing.
+use mathlib.Core.Path.{◌≡◌, refl, sym, ap, ap₂, ◌∙◌}
+use mathlib.Core.List.{List, [], ◌∷◌, ◌++◌, append-nil}
+use Prim.Native.Nat.{ℕ, zero, suc, ◌+◌, ◌*◌, ◌/◌, ◌%◌, ◌^◌, ◌<◌, ◌≤◌, ◌-◌}
+use native.Mathlib.Nat.{pow-suc, add-zero, div-one, div-div-eq-div-mul, mul-suc, mul-zero}
 use native.Mathlib.Numerals.{add-one}
 use native.Mathlib.Omega.{arith}
-use lib.ListN.{length, get_or, set, take, length-append}
-use lib.Seq.{take-suc, length-take-le}
-use lib.Pow.{mod-mod-pow, field, shr-shr}
+use lib.ListN.{length, get_or, set, take, drop, length-append}
+use lib.Seq.{length-take-le}
+use borrow.Rule.Slice.PartMut.{put_mid}
+use Rattle.std.specs.Int.{byte_at, byte_worth, bytes_low_first, sum_through}
+use Rattle.std.specs.List.{flat_map}
+use Rattle.std.proofs.lemmas.List.{get_or-take, get_or-drop, take_more, take_more_set, flat_map_more}
 use Rattle.model.specs.Arena.{laid}
-use Rattle.model.proofs.Records.{laid_last, laid_append}
-use Rattle.wire.specs.Bytes.{number, bytes, numbers, all_bytes}
+use Rattle.model.proofs.Records.{laid_append}
+use Rattle.wire.specs.Bytes.{number, bytes, length_bytes, each_at, numbers, all_bytes}
 
--- j bytes and the k bytes behind them
-pub number_join : (j k : ℕ) (b : List ℕ) (at : ℕ) → number (j + k) b at ≡ number j b at + 256 ^ j * number k b (at + j)
+-- One number: std's bytes, lowest first, are these
+
+number_more : (j : ℕ) (b : List ℕ) (at : ℕ) → number (suc j) b at ≡ number j b at + get_or b (at + j) 0 * 256 ^ j
 unfolding number
-number_join zero k b at = let q : number k b at ≡ number k b (at + 0) = ap (number k b) (sym (add-zero at)) in rw zero-add (omega arith)
-number_join (suc j) k b at =
-    let n = number k b (suc at + j) in
-    let p : 256 ^ suc j * n ≡ 256 * (256 ^ j * n) =
-    ap (λ (x : ℕ). x * n) (pow-suc 256 j ∙ mul_comm (256 ^ j) 256) ∙ mul_assoc 256 (256 ^ j) n in
-    let e : at + suc j ≡ suc at + j = omega arith in
-    let q : number k b (at + suc j) ≡ n = ap (number k b) e in
-    rw (suc-add, q, number_join j k b (suc at)) (omega arith)
+number_more zero b at = let e : get_or b (at + 0) 0 ≡ get_or b at 0 = ap (λ (i : ℕ). get_or b i 0) (add-zero at) in omega arith
+number_more (suc j) b at =
+    let e : get_or b (at + suc j) 0 ≡ get_or b (suc at + j) 0 = ap (λ (i : ℕ). get_or b i 0) (omega arith) in
+    let p : 256 ^ suc j ≡ 256 ^ j * 256 = pow-suc 256 j in
+    rw (e, p) (omega (arith, number_more j b (suc at)))
 
-pub number_two : (b : List ℕ) (at : ℕ) → number 2 b at ≡ get_or b at 0 + 256 * get_or b (at + 1) 0
+number_one : (b : List ℕ) (at : ℕ) → number 1 b at ≡ get_or b at 0
 unfolding number
-number_two b at = let e : get_or b (at + 1) 0 ≡ get_or b (suc at) 0 = ap (λ (i : ℕ). get_or b i 0) (add-one at) in omega arith
+number_one b at = add-zero (get_or b at 0)
 
-pub length_bytes : (k w : ℕ) → length (bytes k w) ≡ k
+sum_bytes : (j : ℕ) (b : List ℕ) (at : ℕ) → sum_through (λ i. byte_worth i (get_or b (at + i) 0)) j ≡ number (suc j) b at
+sum_bytes zero b at = let e : get_or b (at + 0) 0 ≡ get_or b at 0 = ap (λ (i : ℕ). get_or b i 0) (add-zero at) in rw e (sym (number_one b at))
+sum_bytes (suc j) b at = rw (number_more (suc j) b at, sum_bytes j b at) refl
+
+sum_same : (f g : ℕ → ℕ) (n : ℕ) → ((i : ℕ) → i ≤ n → f i ≡ g i) → sum_through f n ≡ sum_through g n
+sum_same f g zero h = h 0 (omega arith)
+sum_same f g (suc n) h = ap₂ (λ (x y : ℕ). x + y) (sum_same f g n (λ i p. h i (omega arith))) (h (suc n) (omega arith))
+
+pub number_le : (j : ℕ) (b : List ℕ) (at : ℕ) (bs : List ℕ) → bs ≡ take (at + suc j - at) (drop at b)
+    → sum_through (λ i. byte_worth i (get_or bs i 0)) j ≡ number (suc j) b at
+number_le j b at bs e =
+    sum_same _ _ j
+    (λ i h. ap (byte_worth i)
+    (ap (λ (l : List ℕ). get_or l i 0) e ∙ get_or-take (at + suc j - at) (drop at b) i 0 (omega arith) ∙ get_or-drop at b i 0))
+    ∙ sum_bytes j b at
+
+byte_is : (i w : ℕ) → byte_at i w ≡ w / 256 ^ i % 256
+byte_is zero w = rw div-one refl
+byte_is (suc i) w = refl
+
+power_more : (i w : ℕ) → w / 256 ^ suc i ≡ w / 256 ^ i / 256
+power_more i w = rw pow-suc (sym (div-div-eq-div-mul w (256 ^ i) 256))
+
+bytes_le : (i k w : ℕ) → bytes_low_first i k w ≡ bytes k (w / 256 ^ i)
 unfolding bytes
-length_bytes zero w = refl
-length_bytes (suc k) w = ap suc (length_bytes k (w / 256))
+bytes_le i zero w = refl
+bytes_le i (suc k) w =
+    ap₂ (λ (x : ℕ) (l : List ℕ). x ∷ l) (byte_is i w)
+    (bytes_le (suc i) k w ∙ ap (bytes k) (power_more i w))
 
--- the low j bytes of a number, and the k bytes above them
-pub bytes_join : (j k w : ℕ) → bytes (j + k) w ≡ bytes j (w % 2 ^ (8 * j)) ++ bytes k (w / 2 ^ (8 * j))
-unfolding bytes
-bytes_join zero k w = rw zero-add (ap (bytes k) (sym (div-one w)))
-bytes_join (suc j) k w =
-    let e : 8 * suc j ≡ 8 * j + 8 = omega arith in
-    let f : 8 + 8 * j ≡ 8 * j + 8 = omega arith in
-    rw (suc-add, e, mod-mod-pow w (8 * j) 8, field w (8 * j) 8, ← f, ← shr-shr w 8 (8 * j))
-    (ap (λ (l : List ℕ). w % 256 ∷ l) (bytes_join j k (w / 256)))
+laid_mid : (b : List ℕ) (at : ℕ) (xs : List ℕ) → at + length xs ≤ length b → put_mid at (length xs) b xs ≡ laid b at xs
+unfolding laid
+laid_mid [] zero [] h = refl
+laid_mid [] zero (x ∷ xs) h = absurd (omega arith)
+laid_mid [] (suc at) xs h = absurd (omega arith)
+laid_mid (y ∷ b) zero [] h = refl
+laid_mid (y ∷ b) zero (x ∷ xs) h = ap (λ (l : List ℕ). x ∷ l) (laid_mid b zero xs (omega arith))
+laid_mid (y ∷ b) (suc at) xs h = ap (λ (l : List ℕ). y ∷ l) (laid_mid b at xs (omega arith))
 
-pub length_all : (k : ℕ) (ws : List ℕ) → length (all_bytes k ws) ≡ k * length ws
-unfolding all_bytes
-length_all k [] = sym (mul-zero k)
-length_all k (w ∷ ws) = length-append (bytes k w) (all_bytes k ws) ∙ omega (arith, length_bytes k w, length_all k ws, mul-suc k (length ws))
+pub put_le : (k w : ℕ) (b : List ℕ) (at : ℕ) (xs : List ℕ) → xs ≡ bytes_low_first 0 k w → at + k ≤ length b
+    → put_mid at (at + k - at) b xs ≡ laid b at (bytes k w)
+put_le k w b at xs e h =
+    let p : xs ≡ bytes k w = e ∙ bytes_le 0 k w ∙ ap (bytes k) (div-one w) in
+    let n : length (bytes k w) ≡ k = length_bytes k w in
+    let m : at + k - at ≡ length (bytes k w) = omega arith in
+    rw (p, m) (laid_mid b at (bytes k w) (omega arith))
 
--- one number more
-pub numbers_more : (k n : ℕ) (b : List ℕ) (at : ℕ) → numbers k (suc n) b at ≡ numbers k n b at ++ (number k b (at + k * n) ∷ [])
-unfolding numbers
-numbers_more k zero b at = let e : at ≡ at + k * 0 = omega (arith, mul-zero k) in ap (λ (i : ℕ). number k b i ∷ []) e
-numbers_more k (suc n) b at =
-    let e : at + k + k * n ≡ at + k * suc n = omega (arith, mul-suc k n) in
-    ap (λ (l : List ℕ). number k b at ∷ l)
-    (numbers_more k n b (at + k) ∙ ap (λ (i : ℕ). numbers k n b (at + k) ++ (number k b i ∷ [])) e)
+-- One number more
+
+module _ {T : Type 0} (get : List ℕ → ℕ → T) (k : ℕ) where
+  each_suc : (n : ℕ) (b : List ℕ) (at : ℕ) → each_at get k (suc n) b at ≡ each_at get k n b at ++ get b (at + k * n) ∷ []
+  unfolding each_at
+  each_suc zero b at = let e : at ≡ at + k * 0 = omega (arith, mul-zero k) in ap (λ (i : ℕ). get b i ∷ []) e
+  each_suc (suc n) b at =
+      let e : at + k + k * n ≡ at + k * suc n = omega (arith, mul-suc k n) in
+      ap (λ (l : List T). get b at ∷ l)
+      (each_suc n b (at + k) ∙ ap (λ (i : ℕ). each_at get k n b (at + k) ++ get b i ∷ []) e)
+
+  -- one number more is read
+  pub one_in : (out : List T) (i : ℕ) (x : T) (b : List ℕ) (at : ℕ) → i < length out → take i out ≡ each_at get k i b at
+      → x ≡ get b (at + k * i) → take (i + 1) (set out i x) ≡ each_at get k (i + 1) b at
+  one_in out i x b at h e f =
+      take_more_set out i x h ∙ ap₂ (λ (l : List T) (y : T). l ++ y ∷ []) e f ∙ rw add-one (sym (each_suc i b at))
+
+  pub length_each : (n : ℕ) (b : List ℕ) (at : ℕ) → length (each_at get k n b at) ≡ n
+  unfolding each_at
+  length_each zero b at = refl
+  length_each (suc n) b at = ap suc (length_each n b (at + k))
+
+module _ {T : Type 0} (put : T → List ℕ) (k : ℕ) (sized : (w : T) → length (put w) ≡ k) where
+  pub length_flat : (ws : List T) → length (flat_map put ws) ≡ k * length ws
+  length_flat [] = sym (mul-zero k)
+  length_flat (w ∷ ws) =
+      length-append (put w) (flat_map put ws) ∙ omega (arith, sized w, length_flat ws, mul-suc k (length ws))
+
+  -- one number more is put
+  pub one_out : (ws : List T) (i : ℕ) (w : T) (b : List ℕ) (at : ℕ) {c d : List ℕ} → i < length ws → w ≡ get_or ws i w
+      → c ≡ laid b at (flat_map put (take i ws)) → d ≡ laid c (at + k * i) (put w)
+      → d ≡ laid b at (flat_map put (take (i + 1) ws))
+  one_out ws i w b at h e f g =
+      let done = flat_map put (take i ws) in
+      let n : length done ≡ k * i = length_flat (take i ws) ∙ ap (λ (j : ℕ). k * j) (length-take-le i ws (omega arith)) in
+      let more : take (i + 1) ws ≡ take i ws ++ w ∷ [] = take_more ws i w h ∙ ap (λ (x : T). take i ws ++ x ∷ []) (sym e) in
+      rw f at g ∙ ap (λ (j : ℕ). laid (laid b at done) (at + j) (put w)) (sym n) ∙ laid_append b at done (put w)
+      ∙ ap (laid b at) (flat_map_more put [] (take i ws) w ∙ ap (flat_map put) (sym more))
 
 pub length_numbers : (k n : ℕ) (b : List ℕ) (at : ℕ) → length (numbers k n b at) ≡ n
-unfolding numbers
-length_numbers k zero b at = refl
-length_numbers k (suc n) b at = ap suc (length_numbers k n b (at + k))
+length_numbers k = length_each (number k) k
 
-pub all_append : (k : ℕ) (ws vs : List ℕ) → all_bytes k (ws ++ vs) ≡ all_bytes k ws ++ all_bytes k vs
-unfolding all_bytes
-all_append k [] vs = refl
-all_append k (w ∷ ws) vs =
-    ap (λ (l : List ℕ). bytes k w ++ l) (all_append k ws vs) ∙ sym (append_assoc (bytes k w) (all_bytes k ws) (all_bytes k vs))
+pub length_all : (k : ℕ) (ws : List ℕ) → length (all_bytes k ws) ≡ k * length ws
+length_all k = length_flat (bytes k) k (length_bytes k)
 
 pub all_one : (k w : ℕ) → all_bytes k (w ∷ []) ≡ bytes k w
-unfolding all_bytes
 all_one k w = append-nil (bytes k w)
-
-pub bytes_two : (w : ℕ) → w < 65536 → bytes 2 w ≡ w % 256 ∷ w / 256 ∷ []
-unfolding bytes
-bytes_two w h = let e : w / 256 % 256 ≡ w / 256 = omega arith in ap (λ (x : ℕ). w % 256 ∷ x ∷ []) e
-
--- the low and the high bytes of a number, laid behind one another
-pub put_join : (j k w : ℕ) (b : List ℕ) (at : ℕ)
-    → laid (laid b at (bytes j (w % 2 ^ (8 * j)))) (at + j) (bytes k (w / 2 ^ (8 * j))) ≡ laid b at (bytes (j + k) w)
-put_join j k w b at =
-    let lo = bytes j (w % 2 ^ (8 * j)) in
-    let hi = bytes k (w / 2 ^ (8 * j)) in
-    ap (λ (n : ℕ). laid (laid b at lo) (at + n) hi) (sym (length_bytes j (w % 2 ^ (8 * j))))
-    ∙ laid_append b at lo hi
-    ∙ ap (laid b at) (sym (bytes_join j k w))
-
--- one number more is read, as a loop's counter has it
-pub one_in : (k i : ℕ) (a b : List ℕ) (at : ℕ)
-    → set (laid a 0 (numbers k i b at)) i (number k b (at + k * i)) ≡ laid a 0 (numbers k (i + 1) b at)
-one_in k i a b at =
-    let ns = numbers k i b at in
-    let e : 0 + length ns ≡ i = zero-add (length ns) ∙ length_numbers k i b at in
-    rw (add-one i, numbers_more k i b at)
-    (ap (λ (n : ℕ). set (laid a 0 ns) n (number k b (at + k * i))) (sym e) ∙ sym (laid_last a 0 ns (number k b (at + k * i))))
-
--- one number more is put
-pub one_out : (k i : ℕ) (ws b : List ℕ) (at : ℕ) → i < length ws
-    → laid (laid b at (all_bytes k (take i ws))) (at + k * i) (bytes k (get_or ws i 0)) ≡ laid b at (all_bytes k (take (i + 1) ws))
-one_out k i ws b at h =
-    let done = all_bytes k (take i ws) in
-    let e : length done ≡ k * i = length_all k (take i ws) ∙ ap (λ (n : ℕ). k * n) (length-take-le i ws (omega arith)) in
-    rw (add-one i, take-suc ws i 0 h, all_append k (take i ws) (get_or ws i 0 ∷ []), all_one k (get_or ws i 0))
-    (ap (λ (n : ℕ). laid (laid b at done) (at + n) (bytes k (get_or ws i 0))) (sym e) ∙ laid_append b at done (bytes k (get_or ws i 0)))

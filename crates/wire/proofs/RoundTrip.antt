@@ -9,8 +9,7 @@ use lib.ListN.{length, get_or, take, drop}
 use lib.Seq.{get_or-append-add, drop-cons, drop-drop, take-add}
 use lib.Pow.{shr_lt}
 use Rattle.model.specs.Choice.{All}
-use Rattle.wire.specs.Bytes.{number, bytes, numbers, all_bytes}
-use Rattle.wire.proofs.Bytes.{length_bytes}
+use Rattle.wire.specs.Bytes.{number, bytes, length_bytes, each_at, numbers, all_bytes}
 
 -- w fits into k bytes
 abbrev pub InBytes : ℕ → ℕ → Type 0
@@ -27,7 +26,7 @@ number_skip (suc k) p q at =
     ap₂ (λ (x y : ℕ). x + 256 * y) (get_or-append-add p q at 0) (rw (← add-suc (length p) at) (number_skip k p q (suc at)))
 
 pub numbers_skip : (k n : ℕ) (p q : List ℕ) (at : ℕ) → numbers k n (p ++ q) (length p + at) ≡ numbers k n q at
-unfolding numbers
+unfolding each_at
 numbers_skip k zero p q at = refl
 numbers_skip k (suc n) p q at =
     let e : length p + at + k ≡ length p + (at + k) = omega arith in
@@ -46,7 +45,7 @@ number_of_bytes (suc k) w q h =
     omega arith
 
 pub numbers_of_all : (k : ℕ) (ws q : List ℕ) → All (InBytes k) ws → numbers k (length ws) (all_bytes k ws ++ q) 0 ≡ ws
-unfolding numbers all_bytes
+unfolding each_at
 numbers_of_all k [] q h = refl
 numbers_of_all k (w ∷ ws) q h =
     let r = all_bytes k ws ++ q in
@@ -71,7 +70,7 @@ bytes_of_number (suc k) b at B h =
 
 pub all_of_numbers : (k n : ℕ) (b : List ℕ) (at : ℕ) → ((i : ℕ) → IsByte (get_or b i 0)) → at + k * n ≤ length b
     → all_bytes k (numbers k n b at) ≡ take (k * n) (drop at b)
-unfolding numbers all_bytes
+unfolding each_at
 all_of_numbers k zero b at B h = rw (mul-zero k) refl
 all_of_numbers k (suc n) b at B h =
     let e : k * suc n ≡ k + k * n = omega (arith, mul-suc k n) in
@@ -80,5 +79,5 @@ all_of_numbers k (suc n) b at B h =
 
 -- one number is a list of it
 pub numbers_one : (k : ℕ) (b : List ℕ) (at : ℕ) → numbers k 1 b at ≡ number k b at ∷ []
-unfolding numbers
+unfolding each_at
 numbers_one k b at = refl

@@ -1,5 +1,7 @@
 -- All numbers lowest byte first: a number in k bytes, and a list of such numbers.
-use Rattle.std.specs.Prelude.{List, [], ◌∷◌, ◌++◌, ℕ, zero, suc, ◌+◌, ◌*◌, ◌/◌, ◌%◌, get_or}
+use Rattle.std.specs.Prelude.{◌≡◌, refl, List, [], ◌∷◌, ℕ, zero, suc, ◌+◌, ◌*◌, ◌/◌, ◌%◌, length, get_or}
+use Rattle.std.specs.List.{flat_map}
+use Rattle.std.proofs.Common.{ap}
 
 -- the number in the k bytes from place `at` on
 unfoldable pub number : ℕ → List ℕ → ℕ → ℕ
@@ -11,11 +13,21 @@ unfoldable pub bytes : ℕ → ℕ → List ℕ
 bytes zero w = []
 bytes (suc k) w = w % 256 ∷ bytes k (w / 256)
 
--- the n numbers of k bytes each from place `at` on, and the bytes of a list of numbers
-unfoldable pub numbers : ℕ → ℕ → List ℕ → ℕ → List ℕ
-numbers k zero b at = []
-numbers k (suc n) b at = number k b at ∷ numbers k n b (at + k)
+-- n of them, the next k bytes further on, by what stands at a place
+unfoldable pub each_at : {T : Type 0} → (List ℕ → ℕ → T) → ℕ → ℕ → List ℕ → ℕ → List T
+each_at get k zero b at = []
+each_at get k (suc n) b at = get b at ∷ each_at get k n b (at + k)
 
-unfoldable pub all_bytes : ℕ → List ℕ → List ℕ
-all_bytes k [] = []
-all_bytes k (w ∷ ws) = bytes k w ++ all_bytes k ws
+-- the n numbers of k bytes each from place `at` on, and the bytes of a list of numbers
+abbrev pub numbers : ℕ → ℕ → List ℕ → ℕ → List ℕ
+numbers k n b at = each_at (number k) k n b at
+
+abbrev pub all_bytes : ℕ → List ℕ → List ℕ
+all_bytes k ws = flat_map (bytes k) ws
+
+-- Laws
+
+pub length_bytes : (k w : ℕ) → length (bytes k w) ≡ k
+unfolding bytes
+length_bytes zero w = refl
+length_bytes (suc k) w = ap suc (length_bytes k (w / 256))

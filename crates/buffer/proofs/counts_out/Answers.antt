@@ -5,6 +5,6 @@ use Rattle.buffer.proofs.counts_out.Goals as goal
 
 pub returns : goal.returns
 returns c =
-    let x = c.args.control in
-    rw (c.put4-2.ensures, c.put4.ensures) at c.put4-3.ensures
+    let x = c.args.control.now in
+    rw (c.put-2.ensures, c.put.ensures) at c.put-3.ensures
     ∙ laid_numbers_lem _ 656 ((4, x.begun) ∷ (4, x.committed) ∷ (4, x.aborted) ∷ [])

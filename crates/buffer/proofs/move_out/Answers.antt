@@ -6,5 +6,5 @@ use Rattle.buffer.proofs.move_out.Goals as goal
 pub returns : goal.returns
 returns c =
     let v = c.args.mv in
-    rw (c.put2-2.ensures, c.put2.ensures, c.put4-2.ensures, c.put4.ensures) at c.put4-3.ensures
+    rw (c.put-4.ensures, c.put-3.ensures, c.put-2.ensures, c.put.ensures) at c.put-5.ensures
     ∙ laid_numbers_lem _ 640 ((4, v.stage) ∷ (4, v.meter) ∷ (2, v.from) ∷ (2, v.target) ∷ (4, v.copied) ∷ [])

@@ -2,13 +2,15 @@
 use Rattle.std.proofs.Common.{sym, ◌∙◌}
 use Rattle.headend.proofs.Exported.{kept_refused, kept_accepted}
 use Rattle.headend.proofs.finish.Goals as goal
-
-pub returns-then-is_refused : goal.returns-then-is_refused
-returns-then-is_refused c =
-    let e = sym c.is_refused.ensures ∙ c.if-is_refused.true in
-    record { result = c.coded.ensures; bytes = sym (kept_refused _ _ _ e) }
+use Rattle.headend.proofs.finish.Goals.{then-not-is_refused, else-not-is_refused}
 
 pub returns : goal.returns
 returns c =
-    let e = sym c.is_refused.ensures ∙ c.if-is_refused.false in
-    record { result = c.coded-2.ensures; bytes = c.state_out.ensures ∙ sym (kept_accepted _ _ _ e) }
+    record {
+      result = c.coded.ensures;
+      bytes =
+          elim c.if-not-is_refused.branch [
+            | then-not-is_refused w ↦ w.b-is ∙ w.state_out.ensures ∙ sym (kept_accepted _ _ _ (sym c.is_refused.ensures ∙ w.if-not-is_refused.true))
+            | else-not-is_refused w ↦ w.b-is ∙ sym (kept_refused _ _ _ (sym c.is_refused.ensures ∙ w.if-not-is_refused.false))
+          ];
+    }

@@ -6,5 +6,5 @@ use Rattle.headend.proofs.run_words.Goals as goal
 pub returns : goal.returns
 returns c =
     run_gives _ _ _ _ _ _ _
-    (rw (state_decoded c.state_in-was.ensures, c.words_in.ensures, c.words_in-2.ensures) at c.run-o.ensures)
+    (rw (state_decoded c.state_in-control.ensures, c.numbers_in.ensures, c.numbers_in-2.ensures) at c.run-reply.ensures)
     c.finish.ensures c.slots_out.ensures

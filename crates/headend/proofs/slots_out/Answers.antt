@@ -5,10 +5,9 @@ use Rattle.wire.proofs.Bytes.{length_all}
 use Rattle.headend.proofs.Exported.{kept_refused, kept_accepted}
 use Rattle.headend.proofs.slots_out.Goals as goal
 
-pub returns-then-is_refused : goal.returns-then-is_refused
-returns-then-is_refused c = sym (kept_refused _ _ _ (sym c.is_refused.ensures ∙ c.if-is_refused.true))
+pub returns-else-not-is_refused : goal.returns-else-not-is_refused
+returns-else-not-is_refused c = sym (kept_refused _ _ _ (sym c.if-not-is_refused.ensures))
 
-pub returns : goal.returns
-returns c =
-    let e = sym c.is_refused.ensures ∙ c.if-is_refused.false in
-    c.words_out.ensures ∙ laid_all _ _ (c.requires ∙ sym (length_all 4 _)) ∙ sym (kept_accepted _ _ _ e)
+pub returns-then-not-is_refused : goal.returns-then-not-is_refused
+returns-then-not-is_refused c =
+    c.numbers_out.ensures ∙ laid_all _ _ (c.requires ∙ sym (length_all 4 _)) ∙ sym (kept_accepted _ _ _ (sym c.if-not-is_refused.ensures))
