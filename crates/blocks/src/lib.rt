@@ -47,7 +47,7 @@ fn lay_block(seen: &mut [u64; 16], arena: &[u32], from: u16, c: u16) -> bool
     free
 }
 
-// Where "the move's other block" starts: "the target in the first three stages, the old one in the third barrier".
+// Where "the move's other block" starts: it is the target in the first three stages, the old one in the third barrier.
 fn other_start(mv: Move) -> Option<u16>
     ensures { result ≡ other_start (stage_of mv.stage) mv }
 {

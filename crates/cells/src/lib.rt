@@ -126,6 +126,7 @@ fn next_cell(map: &[u64; 16], from: u32, which: Cell) -> Option<u32>
 }
 
 // "the lowest run of free cells long enough": from each free cell to the next used one, the first such stretch that is.
+// A loop, since each turn starts where the last stretch ended: a chain would need an iterator of stretches and its laws.
 pub fn find_run(map: &[u64; 16], n: u32) -> Option<u32>
     ensures { result ≡ found (lowest_run map.now n) }
 {
