@@ -9,7 +9,8 @@ ghost use Rattle.mover.specs.Kept.{advance_move};
 ghost use Rattle.table.specs.Words.{put_row, put_phase, put_swaps};
 ghost use Rattle.acts.specs.Acts.{client_left, lent, clear_if, kept_turn, keeper_turn, by_move, LeftDoes, MoveDoes, TurnDoes};
 
-use model::{Answer, Control, Move, Stepped};
+use clients::settle;
+use model::{Access, Answer, Control, Move, Reason, Stepped};
 
 // What ADVANCE on the move alone leaves.
 #[derive(Clone, Copy)]
@@ -62,6 +63,7 @@ fn keep_swap(table: &mut [u32], i: u32, o: Stepped) -> Answer
 }
 
 // A client's step on row i; "Unused numbers are ignored."
+#[tactic(auto, unfolding(crate::specs::Acts::client_left))]
 pub fn client(
     arena: &mut [u32],
     table: &mut [u32],
@@ -72,34 +74,40 @@ pub fn client(
     b: u32,
     v: u32,
 ) -> Answer
-    requires { length dir.now ≡ 256 }
     ensures { LeftDoes arena.new table.new result
         (client_left (get_or client_codes code UNKNOWN) arena.old table.old dir.now i a b v) }
 {
     let row = table::row_at(table, i);
     match code {
-        10 => keep_row(table, i, clients::attach(row)),
-        11 => keep_row(table, i, clients::detach(row)),
+        10 => keep_row(table, i, settle(row, clients::attach(row))),
+        11 => keep_row(table, i, settle(row, clients::detach(row))),
         12 => {
             let entry = directory::entry_of(dir, a) as u32;
-            keep_row(table, i, clients::open_hold(row, entry, a, b))
+            let step = clients::open_hold(row, entry, a, b);
+            keep_row(table, i, settle(row, step))
         }
-        13 => keep_row(table, i, clients::drop_hold(row, a)),
-        14..=15 => {
-            let o = clients::start_access(arena, row, code == 15, a, b, v);
-            keep_phase(table, i, o)
+        13 => keep_row(table, i, settle(row, clients::drop_hold(row, a))),
+        14 => {
+            let read = Access::Read { hold: a, word: b };
+            let step = clients::start_access(arena, row, read);
+            keep_phase(table, i, settle(row, step))
+        }
+        15 => {
+            let write = Access::Write {
+                hold: a,
+                word: b,
+                value: v,
+            };
+            let step = clients::start_access(arena, row, write);
+            keep_phase(table, i, settle(row, step))
         }
         16 => {
-            let o = clients::go(arena, row);
-            let put = o.change;
-            record::apply(arena, put);
+            let o = settle(row, clients::go(arena, row));
+            record::apply(arena, o.change);
             keep_swap(table, i, o)
         }
-        17 => {
-            let o = clients::rest(arena, row);
-            keep_row(table, i, o)
-        }
-        0..=9 | 18..=4294967295 => Answer::Refused(4),
+        17 => keep_row(table, i, settle(row, clients::rest(arena, row))),
+        _ => Answer::from(Reason::Unknown),
     }
 }
 

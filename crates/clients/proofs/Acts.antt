@@ -1,6 +1,5 @@
 -- A client's step of the model is its turn put back into the state.
-use Rattle.std.proofs.Common.{◌≡◌, ℕ, zero, suc, pred, ◌<◌, Bool, true, false, List, [], ◌∷◌, get_or, drop, replicate, sym, refl, ap, ◌∙◌, arith, lt-ltb}
-use lib.ListN.{get_or-replicate, get_or-append, get_or-eq_default}
+use Rattle.std.proofs.Common.{◌≡◌, ℕ, zero, suc, pred, ◌<◌, Bool, true, false, List, [], ◌∷◌, get_or, sym, refl, ap, arith, lt-ltb}
 use lib.Seq.{set-get_or}
 use Rattle.model.proofs.Choice.{clash}
 use Rattle.model.proofs.Says.{all_test}
@@ -32,14 +31,6 @@ turn_seated ((n, false) ∷ l) s t o = turn_seated l s t o
 pub client_named : (who code : ℕ) → 0 < who → who < 9 → named who code ≡ get_or client_codes code UNKNOWN
 client_named zero code p q = absurd (omega arith)
 client_named (suc client) code p q = rw (lt-ltb client 8 (omega arith))
-
--- codes below 10 and above 17 are no client's
-pub code_below : (code : ℕ) → code < 10 → get_or client_codes code UNKNOWN ≡ UNKNOWN
-code_below code h =
-    get_or-append (replicate 10 UNKNOWN) (drop 10 client_codes) UNKNOWN code h ∙ get_or-replicate 10 code UNKNOWN UNKNOWN h
-
-pub code_above : (code : ℕ) → 17 < code → get_or client_codes code UNKNOWN ≡ UNKNOWN
-code_above code h = get_or-eq_default client_codes UNKNOWN h
 
 -- the names that a client's code can have
 abbrev clients : Name → Bool

@@ -1,11 +1,13 @@
 -- A client's turn: its step refused by the lowest number that applies, or done; on its own row and the arena.
-use Rattle.std.specs.Prelude.{ℕ, List, None}
+use Rattle.std.specs.Prelude.{ℕ, List, None, Result, Ok, Err}
 use Rattle.model.specs.declared.Access.{Access}
 use Rattle.model.specs.declared.Access.TheVariants.{Read, Write}
 use Rattle.model.specs.declared.Row.{Row}
 use Rattle.model.specs.declared.Answer.TheVariants.{Refused}
+use Rattle.model.specs.declared.Reason.{Reason}
 use Rattle.model.specs.declared.Stepped.{Stepped}
 use Rattle.model.specs.Rows.{hold_of, word_of}
+use Rattle.model.specs.State.{reason_number}
 use Rattle.model.specs.ClientSteps.{stepped, attach, detach, open_hold, drop_hold, load_header, go, rest}
 use Rattle.model.specs.Choice.{Refusal, refuse}
 use Rattle.model.specs.Refusals.{attach_refusals, rest_refusals, open_refusals, drop_refusals, access_refusals, go_refusals}
@@ -14,6 +16,11 @@ use Rattle.model.specs.Steps.{Name, ATTACH, DETACH, OPEN, DROP, READ, WRITE, GO,
 -- "All memory and the control record are then as before, and the value is 0."
 abbrev pub refused_turn : Row → ℕ → Stepped
 refused_turn r n = stepped r None (Refused n)
+
+-- what a step's function gives, taken as a turn: its reason refuses
+abbrev pub settled : Row → Result Stepped Reason → Stepped
+settled r (Ok o) = o
+settled r (Err reason) = refused_turn r (reason_number reason)
 
 unfoldable pub turn : List Refusal → Row → Stepped → Stepped
 turn l r o = refuse l (refused_turn r) o

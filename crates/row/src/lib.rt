@@ -3,7 +3,7 @@
 #![tactic(auto)]
 
 ghost use Rattle.std.specs.Prelude.{◌≡◌, eqb, get_or, set};
-ghost use Rattle.model.specs.Choice.{pick, any};
+ghost use Rattle.model.specs.Choice.{any};
 ghost use Rattle.model.specs.Arena.{none};
 ghost use Rattle.model.specs.Rows.{access_of, hold_of, word_of, busy, with_phase};
 
@@ -11,13 +11,6 @@ use model::{Access, Phase, Row};
 
 // "each empty (65535) or a cell"
 const NONE: u32 = 65535;
-
-// One of two numbers by a test.
-pub fn choose(test: bool, x: u32, y: u32) -> u32
-    ensures { result ≡ pick test x y }
-{
-    if test { x } else { y }
-}
 
 // A hold above 3 is empty.
 pub fn hold_of(holds: [u32; 4], hold: u32) -> u32
@@ -57,7 +50,7 @@ pub fn with_phase(row: Row, phase: Phase) -> Row
     Row { phase, ..row }
 }
 
-// "the access (read or write, hold, word, value), value 0 for a read"
+// "the access (read or write, hold, word, value), value 0 for a read": which of the two is a bit where it is stored.
 pub fn access_of(write: bool, hold: u32, word: u32, value: u32) -> Access
     ensures { result ≡ access_of write hold word value }
 {
