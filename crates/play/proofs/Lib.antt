@@ -1,3 +1,3 @@
-pub mod Steps
+pub mod Archives
 pub mod Sections
 pub mod Printed

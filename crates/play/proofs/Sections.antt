@@ -1,35 +1,91 @@
--- A section's numbers laid out as words are its steps; its runs are those of the definition; what they reach was reached from fresh.
--- Assumes nothing.
-use mathlib.Core.Path.{◌≡◌, refl, ap, ◌∙◌}
-use mathlib.Core.Bool.{Bool, true, false}
+-- A section's steps one by one: at each turn those that were run; its numbers laid out as words are its steps; its runs are those of the
+-- definition. Assumes nothing.
+use mathlib.Core.Path.{◌≡◌, refl, sym, ap, ◌∙◌}
 use mathlib.Core.Logic.{⊎_elim}
-use mathlib.Core.List.{List, [], ◌∷◌}
+use mathlib.Core.List.{List, [], ◌∷◌, ◌++◌, append_assoc, append-nil}
 use Prim.Native.Nat.{ℕ, zero, suc, ◌+◌, ◌-◌, ◌*◌, ◌≤◌}
 use native.Mathlib.Omega.{arith}
 use lib.ListN.{length, get_or, take, drop, replicate, length-replicate, get_or-eq_default}
 use lib.Seq.{sets, sets-eq, get_or-append-add, get_or-drop}
-use Rattle.model.specs.declared.Control.{Control}
-use Rattle.model.specs.State.{State, fresh, outcome}
-use Rattle.model.specs.Steps.{Step, act, one_by_one, steps_from, wrong_size, fresh_call}
-use Rattle.model.specs.declared.Answer.TheVariants.{Done}
+use Rattle.model.specs.State.{State, Outcome, number, value}
+use Rattle.model.specs.Steps.{Step, act, Ran, one_by_one, steps_from}
 use Rattle.model.proofs.Choice.{order}
 use Rattle.model.proofs.Says.{get_d_fresh}
-use Rattle.model.proofs.Calls.{fresh_succeeds}
-use Rattle.demands.specs.Log.{after}
-use Rattle.archive.specs.declared.Reply.{Reply}
-use Rattle.archive.specs.Does.{meant, words_after, CallDoes}
-use Rattle.table.proofs.Rows.{length_rows}
 use Rattle.std.specs.Prelude.{Option, Some, None}
 use Rattle.script.specs.declared.Found.{Found}
+use Rattle.script.specs.declared.printing.Page.{Page}
 use Rattle.script.specs.Numbers.{number_at}
 use Rattle.script.specs.Lines.{numbers_at}
-use Rattle.script.specs.Printing.{Page}
-use Rattle.script.specs.Replay.{admissions_from}
+use Rattle.script.specs.Printing.{line2}
+use Rattle.script.specs.Pages.{Writes}
+use Rattle.script.specs.Replay.{admissions_from, answer_lines}
+use Rattle.script.specs.Sizes.{Short, none, more}
 use Rattle.script.proofs.Lines.{numbers_none, numbers_stop, numbers_go_on}
+use Rattle.script.proofs.Pages.{writes_then}
 use Rattle.script.proofs.Replay.{words_there}
-use Rattle.play.specs.declared.Played.{Played}
-use Rattle.play.specs.Plays.{steps_in, per_line, run_in, section_run, Holds, Reached, Plays}
-use Rattle.play.proofs.Steps.{meant_is}
+use Rattle.turns.specs.declared.Numbers.{Numbers}
+use Rattle.play.specs.declared.Lines.{Lines}
+use Rattle.play.specs.declared.Lines.TheVariants.{Admissions, Steps}
+use Rattle.play.specs.Plays.{step_in, steps_in, per_line, run_in, section_run, numbers_of, one_step, Plays}
+
+-- A step behind others
+next_behind : (s : State) (t : Step) (l : List Step) → (one_by_one act s (l ++ (t ∷ []))).next ≡ (act (one_by_one act s l).next t).next
+next_behind s t [] = refl
+next_behind s t (k ∷ l) = next_behind (act s k).next t l
+
+abbrev slot_of : Outcome → List ℕ
+slot_of o = number o.answer ∷ value o.answer ∷ []
+
+slots_behind : (s : State) (t : Step) (l : List Step)
+    → (one_by_one act s (l ++ (t ∷ []))).slots ≡ (one_by_one act s l).slots ++ slot_of (act (one_by_one act s l).next t)
+slots_behind s t [] = refl
+slots_behind s t (k ∷ l) =
+    ap (λ (z : List ℕ). number (act s k).answer ∷ value (act s k).answer ∷ z) (slots_behind (act s k).next t l)
+
+steps_behind : (lines : Lines) (words : List ℕ) (i n : ℕ)
+    → steps_in lines words i (suc n) ≡ steps_in lines words i n ++ (step_in lines words (i + n) ∷ [])
+unfolding steps_in
+steps_behind lines words i zero = ap (λ (k : ℕ). step_in lines words k ∷ []) (omega arith)
+steps_behind lines words i (suc n) =
+    let k : suc i + n ≡ i + suc n = omega arith in
+    ap (λ (l : List Step). step_in lines words i ∷ l) (steps_behind lines words (suc i) n
+    ∙ ap (λ (j : ℕ). steps_in lines words (suc i) n ++ (step_in lines words j ∷ [])) k)
+
+lines_behind : {a : List ℕ} (b : List ℕ) → Short a → answer_lines (a ++ b) ≡ answer_lines a ++ answer_lines b
+unfolding answer_lines
+lines_behind b none = refl
+lines_behind b (more {n = n} {v = v} {slots = slots} p q r) =
+    ap (λ (z : List ℕ). line2 n v ++ z) (lines_behind b r) ∙ sym (append_assoc (line2 n v) (answer_lines slots) (answer_lines b))
+
+short_behind : {a b : List ℕ} → Short a → Short b → Short (a ++ b)
+short_behind none k = k
+short_behind (more p q r) k = more p q (short_behind r k)
+
+-- the first steps of a section, and one more
+module _ (s : State) (lines : Lines) (words : List ℕ) where
+  pub plays_none : {p q : Page} {first : List ℕ} → Writes p q first → Plays s s p q first (run_in s lines words 0)
+  unfolding steps_in answer_lines
+  plays_none {p} {q} {first} w = record { next = refl; prints = rw (append-nil first) w; short = none }
+
+  pub plays_more : (i : ℕ) (m n : State) (x : Numbers) {p q r : Page} {first : List ℕ} → x ≡ numbers_of (step_in lines words i)
+      → Plays s m p q first (run_in s lines words i) → Plays m n q r [] (one_step m x) → Plays s n p r first (run_in s lines words (i + 1))
+  plays_more i m n x {p} {q} {r} {first} e P Q =
+      let t : Step = step_in lines words i in
+      let l : List Step = steps_in lines words 0 i in
+      let so_far : Ran = one_by_one act s l in
+      let one : i + 1 ≡ suc i = omega arith in
+      let all : 0 + i ≡ i = omega arith in
+      let k : steps_in lines words 0 (i + 1) ≡ l ++ (t ∷ []) =
+      ap (steps_in lines words 0) one ∙ steps_behind lines words 0 i ∙ ap (λ (j : ℕ). l ++ (step_in lines words j ∷ [])) all in
+      let Q' : Plays so_far.next n q r [] (one_by_one act so_far.next (t ∷ [])) = rw (e, P.next) at Q in
+      let slot : List ℕ = slot_of (act so_far.next t) in
+      rw k
+      (record {
+        next = Q'.next ∙ sym (next_behind s t l);
+        prints = rw (slots_behind s t l, lines_behind slot P.short, ← append_assoc first (answer_lines so_far.slots) (answer_lines slot))
+            (writes_then P.prints Q'.prints);
+        short = rw (slots_behind s t l) (short_behind P.short Q'.short);
+      })
 
 -- numbers laid out over zeros: the same numbers, and zeros behind them
 behind : (n : ℕ) (vs : List ℕ) (j : ℕ) → length vs ≤ n → ◌≡◌ {A = ℕ} (get_or (sets (replicate n 0) 0 vs) (length vs + j) 0) 0
@@ -45,20 +101,20 @@ laid_out n vs i h =
     rw (get_or-eq_default vs 0 {n = i} k) (ap (λ (j : ℕ). get_or (sets (replicate n 0) 0 vs) j 0) e ∙ behind n vs (i - length vs) h))
     (order i (length vs))
 
-pub steps_laid_out : (n : ℕ) (vs : List ℕ) → length vs ≤ n → (admission : Bool) (i k : ℕ)
-    → steps_in admission (sets (replicate n 0) 0 vs) i k ≡ steps_in admission vs i k
+steps_laid_out : (n : ℕ) (vs : List ℕ) → length vs ≤ n → (lines : Lines) (i k : ℕ)
+    → steps_in lines (sets (replicate n 0) 0 vs) i k ≡ steps_in lines vs i k
 unfolding steps_in
-steps_laid_out n vs h admission i zero = refl
-steps_laid_out n vs h true i (suc k) =
-    rw (laid_out n vs (2 * i) h, laid_out n vs (2 * i + 1) h, steps_laid_out n vs h true (suc i) k)
-steps_laid_out n vs h false i (suc k) =
+steps_laid_out n vs h lines i zero = refl
+steps_laid_out n vs h Admissions i (suc k) =
+    rw (laid_out n vs (2 * i) h, laid_out n vs (2 * i + 1) h, steps_laid_out n vs h Admissions (suc i) k)
+steps_laid_out n vs h Steps i (suc k) =
     rw (
       laid_out n vs (5 * i) h,
       laid_out n vs (5 * i + 1) h,
       laid_out n vs (5 * i + 2) h,
       laid_out n vs (5 * i + 3) h,
       laid_out n vs (5 * i + 4) h,
-      steps_laid_out n vs h false (suc i) k,
+      steps_laid_out n vs h Steps (suc i) k,
     )
 
 -- at most as many numbers as are asked for
@@ -78,62 +134,25 @@ zeros_taken (suc n) zero h = absurd (omega arith)
 zeros_taken (suc n) (suc room) h = ap (λ (l : List ℕ). 0 ∷ l) (zeros_taken n room (omega arith))
 
 -- a section played from its words is played from its numbers
-pub section_plays : (s words : List ℕ) (admission : Bool) (count size start room : ℕ) (st : State) {p q : Page} {r : Played}
-    {b u out : List ℕ} → per_line admission * count ≤ room → size ≡ per_line admission * count
-    → words ≡ sets (take size (replicate room 0)) 0 (numbers_at s (length (take size (replicate {A = ℕ} room 0))) start) → p ≡ q
-    → Plays p (run_in st admission words count) r b u out → Plays q (section_run st admission s start count) r b u out
-section_plays s words admission count size start room st {p} {q} {r} {b} {u} {out} h e f g P =
-    let n : ℕ = per_line admission * count in
+pub section_plays : (s words : List ℕ) (lines : Lines) (count size start room : ℕ) (st : State) {m : State} {p q : Page} {first : List ℕ}
+    → per_line lines * count ≤ room → size ≡ per_line lines * count
+    → words ≡ sets (take size (replicate room 0)) 0 (numbers_at s (length (take size (replicate {A = ℕ} room 0))) start)
+    → Plays st m p q first (run_in st lines words count) → Plays st m p q first (section_run st lines s start count)
+section_plays s words lines count size start room st h e f P =
+    let n : ℕ = per_line lines * count in
     let vs : List ℕ = numbers_at s n start in
     let w : words ≡ sets (replicate n 0) 0 vs = f ∙ rw (e, zeros_taken n room h, length-replicate) in
-    let l : steps_in admission words 0 count ≡ steps_in admission vs 0 count =
-    ap (λ (z : List ℕ). steps_in admission z 0 count) w ∙ steps_laid_out n vs (few s n start) admission 0 count in
-    rw (g, l) at P
+    let l : steps_in lines words 0 count ≡ steps_in lines vs 0 count =
+    ap (λ (z : List ℕ). steps_in lines z 0 count) w ∙ steps_laid_out n vs (few s n start) lines 0 count in
+    rw l at P
 
 -- the sections of the definition
-pub admissions_are : (words : List ℕ) (i n : ℕ) → steps_in true words i n ≡ admissions_from words i n
+pub admissions_are : (words : List ℕ) (i n : ℕ) → steps_in Admissions words i n ≡ admissions_from words i n
 unfolding steps_in admissions_from
 admissions_are words i zero = refl
 admissions_are words i (suc n) = rw (admissions_are words (suc i) n)
 
-pub steps_are : (words : List ℕ) (i n : ℕ) → steps_in false words i n ≡ steps_from words i n
+pub steps_are : (words : List ℕ) (i n : ℕ) → steps_in Steps words i n ≡ steps_from words i n
 unfolding steps_in steps_from
 steps_are words i zero = refl
 steps_are words i (suc n) = rw (steps_are words (suc i) n)
-
--- what steps reach from what was reached was reached
-pub record Reach (s : State) : Type 0 where
-  pub steps : List Step
-  pub is : s ≡ after steps
-
-pub run_reaches : (k l : List Step) → Reach (one_by_one act (after k) l).next
-run_reaches k [] = record { steps = k; is = refl }
-run_reaches k (t ∷ l) = run_reaches (t ∷ k) l
-
-pub reached_by_lem : {s : State} {c : Control} {a t : List ℕ} → Reach s → Holds s c a t → Reached c a t
-reached_by_lem {s} {c} {a} {t} R h = record { steps = R.steps; holds = rw R.is at h }
-
-pub meant_by : {s : State} {c : Control} {a t : List ℕ} → Reach s → Holds s c a t → meant c a t ≡ s
-meant_by {s} {c} {a} {t} R h = let k : Holds (after R.steps) c a t = rw R.is at h in rw R.is (meant_is R.steps k)
-
-pub reached_after : {c : Control} {a t : List ℕ} (R : Reached c a t) (l : List Step) {q : Page} {r : Played} {b u out : List ℕ}
-    → Plays q (one_by_one act (meant c a t) l) r b u out → Reached r.control b u
-reached_after R l P = reached_by_lem (rw (meant_is R.steps R.holds) (run_reaches R.steps l)) P.holds
-
-pub fresh_reach : Reach fresh
-fresh_reach = record { steps = []; is = refl }
-
--- a fresh archive
-right_words : (c : Control) (a t : List ℕ) → length a ≡ 8192 → length t ≡ 96 → wrong_size (meant c a t) ≡ false
-unfolding wrong_size
-right_words c a t ea et = rw (ea, length_rows t et) refl
-
-pub fresh_holds : (c : Control) {r : Reply} {b u : List ℕ}
-    → CallDoes (replicate 96 0) r b u (fresh_call (meant c (replicate 8192 0) (replicate 96 0))) → Holds fresh r.control b u
-unfolding words_after
-fresh_holds c {r} {b} {u} D =
-    let words : (n : ℕ) → length {A = ℕ} (replicate n 0) ≡ n = λ n. length-replicate n 0 in
-    let right = right_words c (replicate 8192 0) (replicate 96 0) (words 8192) (words 96) in
-    let E : CallDoes (replicate 96 0) r b u (outcome (Done 0) fresh) =
-    rw (fresh_succeeds (meant c (replicate 8192 0) (replicate 96 0)) right) at D in
-    record { control = E.control; arena = E.arena; table = E.table }

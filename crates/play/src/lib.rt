@@ -2,20 +2,18 @@
 // Reads no file and prints nothing itself; a text that is not a script reaches no archive.
 #![tactic(auto)]
 
-ghost use Rattle.std.specs.Prelude.{◌≡◌, ◌*◌, ◌≤◌, length};
-ghost use Rattle.model.specs.Choice.{total};
-ghost use Rattle.model.specs.Arena.{fill};
-ghost use Rattle.model.specs.Rows.{swaps_of};
-ghost use Rattle.model.specs.Steps.{step};
-ghost use Rattle.table.specs.Words.{rows_read};
+ghost use Rattle.std.specs.Prelude.{◌≡◌, Ok, ◌*◌, ◌≤◌, [], length};
+ghost use Rattle.model.specs.State.{fresh};
 ghost use Rattle.script.specs.Lines.{parse};
-ghost use Rattle.script.specs.Printing.{page, written, line1};
-ghost use Rattle.script.specs.Replay.{five_totals, replay_text};
-ghost use Rattle.archive.specs.Does.{meant};
-ghost use Rattle.play.specs.Plays.{numbers_of, step_in, per_line, one_step, run_in, section_run, Reached, Plays, Performs, Prints};
+ghost use Rattle.script.specs.Printing.{line1};
+ghost use Rattle.script.specs.Replay.{replay_text};
+ghost use Rattle.play.specs.Plays.{numbers_of, step_in, per_line, one_step, section_run, totals_of, Plays, Performs, Prints};
 
+use answers::Told;
 use model::{Control, Move};
-use script::Script;
+use script::printing::{Page, Totals};
+use script::{Script, Section};
+use std::marker::Model;
 use turns::Numbers;
 
 // "at most 65,536 bytes"
@@ -24,225 +22,162 @@ const MOST: usize = 65536;
 // As many words as a text of so many bytes can hold: a number takes two bytes.
 const WORDS: usize = 32768;
 
-// The control record after some steps, and the place behind the lines printed for them.
+// "admissions `meter kind`, steps `who code a b v`": what the lines of a section say.
 #[derive(Clone, Copy)]
-pub struct Played {
-    pub control: Control,
-    pub at: usize,
+enum Lines {
+    Admissions,
+    Steps,
 }
 
-// "admissions `meter kind`"
-fn admission_of(meter: u32, kind: u32) -> Numbers
-    ensures { result ≡ numbers_of (step 0 1 meter kind 0) }
-{
-    Numbers {
-        who: 0,
-        code: 1,
-        a: meter,
-        b: kind,
-        v: 0,
+impl Lines {
+    // How many numbers a line has.
+    fn numbers(self) -> usize
+        ensures { result ≡ per_line self }
+    {
+        match self {
+            Lines::Admissions => 2,
+            Lines::Steps => 5,
+        }
+    }
+
+    // Line i of a section whose numbers lie in words.
+    fn step_in(self, words: &[u32], i: u32) -> Numbers
+        ensures { result ≡ numbers_of (step_in self words.now i) }
+    {
+        let k = self.numbers() * i as usize;
+        match self {
+            Lines::Admissions => Numbers {
+                who: 0,
+                code: 1,
+                a: record::load(words, k),
+                b: record::load(words, k + 1),
+                v: 0,
+            },
+            Lines::Steps => Numbers {
+                who: record::load(words, k),
+                code: record::load(words, k + 1),
+                a: record::load(words, k + 2),
+                b: record::load(words, k + 3),
+                v: record::load(words, k + 4),
+            },
+        }
     }
 }
 
-// "admissions `meter kind`, steps `who code a b v`": line i of a section whose numbers lie in words.
-fn step_in(words: &[u32], admission: bool, i: u32) -> Numbers
-    ensures { result ≡ numbers_of (step_in admission words.now i) }
-{
-    let k = i as usize;
-    if admission {
-        let meter = record::load(words, 2 * k);
-        let kind = record::load(words, 2 * k + 1);
-        return admission_of(meter, kind);
-    }
-    Numbers {
-        who: record::load(words, 5 * k),
-        code: record::load(words, 5 * k + 1),
-        a: record::load(words, 5 * k + 2),
-        b: record::load(words, 5 * k + 3),
-        v: record::load(words, 5 * k + 4),
-    }
-}
-
-// How many numbers so many lines have.
-fn numbers_in(admission: bool, count: u32) -> usize
-    ensures { result ≡ per_line admission * count }
-{
-    if admission {
-        2 * (count as usize)
-    } else {
-        5 * (count as usize)
-    }
-}
-
-// A step on what steps from fresh have reached, and its line: "answer and value".
-fn play_step(
+// An archive that steps have reached from fresh, on lent memory; a contract sees the state that it is in.
+#[derive(Drop)]
+struct Archive<'a> {
     control: Control,
-    arena: &mut [u32],
-    table: &mut [u32],
-    s: Numbers,
-    out: &mut [u8],
-    at: usize,
-) -> Played
-    requires { Reached control arena.old table.old }
-    ensures { Plays (page out.old at)
-        (one_step (meant control arena.old table.old) s)
-        result arena.new table.new out.new }
-{
-    let reply = archive::step(control, arena, table, s.who, s.code, s.a, s.b, s.v);
-    let next = reply.control;
-    let answer = reply.answer;
-    let told = answers::tell(answer);
-    let end = script::printing::put_pair(out, at, told.number, told.value);
-    Played {
-        control: next,
-        at: end,
-    }
+    arena: &'a mut [u32],
+    table: &'a mut [u32],
 }
 
-// The steps of a section, one by one.
-fn play_steps(
-    was: Control,
-    arena: &mut [u32],
-    table: &mut [u32],
-    words: &[u32],
-    admission: bool,
-    count: u32,
-    out: &mut [u8],
-    at: usize,
-) -> Played
-    requires { Reached was arena.old table.old }
-    ensures { Plays (page out.old at)
-        (run_in (meant was arena.old table.old) admission words.now count)
-        result arena.new table.new out.new }
-{
-    let mut control = was;
-    let mut place = at;
-    let mut i: u32 = 0;
-    while i < count {
-        let o = play_step(
+impl<'a> Model for Archive<'a> {
+    ghost use Rattle.model.specs.State.{State};
+
+    ghost Value = { State };
+
+    ghost use Rattle.archive.specs.Does.{meant};
+    ghost use Rattle.play.specs.Plays.{Reached};
+
+    ghost view = { λ a. meant a.control a.arena.now a.table.now };
+
+    ghost invariant = { λ a. Reached a.control a.arena.now a.table.now };
+}
+
+impl<'a> Archive<'a> {
+    fn fresh(arena: &'a mut [u32; 8192], table: &'a mut [u32; 96]) -> Archive<'a>
+        ensures { result ≡ fresh }
+    {
+        let blank = Control {
+            dir: [0; 256],
+            map: [0; 16],
+            mv: Move::default(),
+            begun: 0,
+            committed: 0,
+            aborted: 0,
+        };
+        let control = archive::fresh(blank, arena, table).control;
+        Archive {
             control,
             arena,
             table,
-            step_in(words, admission, i),
-            out,
-            place,
-        );
-        let next = o.control;
-        control = next;
-        place = o.at;
-        i += 1;
+        }
     }
-    Played { control, at: place }
-}
 
-// "Output, each section after its count"
-fn section(
-    input: &[u8],
-    start: usize,
-    admission: bool,
-    count: u32,
-    control: Control,
-    arena: &mut [u32],
-    table: &mut [u32],
-    out: &mut [u8],
-    at: usize,
-) -> Played
-    requires { (Reached control arena.old table.old) × (per_line admission * count ≤ 32768) }
-    ensures { Plays (written (page out.old at) (line1 count))
-        (section_run (meant control arena.old table.old) admission input.now start count)
-        result arena.new table.new out.new }
-{
-    let mut words = [0u32; WORDS];
-    let words = &mut words[..numbers_in(admission, count)];
-    script::reading::numbers(input, start, words);
-    let next = script::printing::put_line(out, at, count as u64);
-    play_steps(control, arena, table, words, admission, count, out, next)
-}
+    // A step, and its line: "answer and value".
+    fn step(&mut self, s: Numbers, page: &mut Page)
+        ensures { Plays self.old self.new page.old page.new [] (one_step self.old s) }
+    {
+        let reply = archive::step(
+            self.control,
+            self.arena,
+            self.table,
+            s.who,
+            s.code,
+            s.a,
+            s.b,
+            s.v,
+        );
+        self.control = reply.control;
+        let told = Told::from(reply.answer);
+        page.put_pair(told.number, told.value);
+    }
 
-// "then five totals: begun, committed, aborted, all swaps, fill"
-fn totals(control: Control, table: &[u32], out: &mut [u8], at: usize) -> usize
-    ensures { page out.new result ≡ written (page out.old at)
-        (five_totals control.begun control.committed control.aborted
-        (total swaps_of (rows_read table.now)) (fill control.map)) }
-{
-    let swaps = table::all_swaps(table);
-    let filled = cells::fill(&control.map);
-    script::printing::put_totals(
-        out,
-        at,
-        control.begun,
-        control.committed,
-        control.aborted,
-        swaps,
-        filled,
-    )
-}
+    // "Output, each section after its count": the steps one by one.
+    fn section(&mut self, input: &[u8], lines: Lines, part: Section, page: &mut Page)
+        requires { per_line lines * part.count ≤ 32768 }
+        ensures { Plays self.old self.new page.old page.new (line1 part.count)
+            (section_run self.old lines input.now part.start part.count) }
+    {
+        let mut words = [0u32; WORDS];
+        let words = &mut words[..lines.numbers() * part.count as usize];
+        script::reading::numbers(input, part.start, words);
+        page.put_line(part.count as u64);
+        for i in 0..part.count {
+            self.step(lines.step_in(words, i), page);
+        }
+    }
 
-// A control record to make fresh.
-fn blank() -> Control {
-    let mv = Move {
-        stage: 0,
-        meter: 0,
-        from: 0,
-        target: 0,
-        copied: 0,
-    };
-    Control {
-        dir: [0; 256],
-        map: [0; 16],
-        mv,
-        begun: 0,
-        committed: 0,
-        aborted: 0,
+    // "five totals: begun, committed, aborted, all swaps, fill"
+    fn totals(&self) -> Totals
+        ensures { result ≡ totals_of self.now }
+    {
+        Totals {
+            begun: self.control.begun,
+            committed: self.control.committed,
+            aborted: self.control.aborted,
+            swaps: table::all_swaps(self.table),
+            fill: cells::fill(&self.control.map),
+        }
     }
 }
 
 // The admissions and the steps behind them, on a fresh archive.
-fn perform(input: &[u8], script: Script, out: &mut [u8]) -> usize
+fn perform(input: &[u8], script: Script, page: &mut Page)
     requires { (length input.now ≤ 65536) × (parse input.now ≡ Ok script) }
-    ensures { Performs input.now script out.old out.new result }
+    ensures { Performs input.now script page.old page.new }
 {
     let mut arena = [0u32; 8192];
     let mut table = [0u32; 96];
-    let fresh = archive::fresh(blank(), &mut arena, &mut table);
-    let empty = fresh.control;
-    let Script { admissions, steps } = script;
-    let admitted = section(
-        input,
-        admissions.start,
-        true,
-        admissions.count,
-        empty,
-        &mut arena,
-        &mut table,
-        out,
-        0,
-    );
-    let full = admitted.control;
-    let stepped = section(
-        input,
-        steps.start,
-        false,
-        steps.count,
-        full,
-        &mut arena,
-        &mut table,
-        out,
-        admitted.at,
-    );
-    let last = stepped.control;
-    totals(last, &table, out, stepped.at)
+    let mut archive = Archive::fresh(&mut arena, &mut table);
+    archive.section(input, Lines::Admissions, script.admissions, page);
+    archive.section(input, Lines::Steps, script.steps, page);
+    page.put_totals(archive.totals());
 }
 
 // The whole program, bytes to bytes: how many of the output's bytes are printed. 229,440 have room for any text.
 pub fn replay(input: &[u8], output: &mut [u8]) -> usize
     ensures { Prints output.old output.new result (replay_text input.now) }
 {
+    let mut page = Page::new(output);
     if MOST < input.len() {
-        return script::printing::put_too_long(output, 0);
+        page.put_too_long();
+        return page.at;
     }
     match script::reading::parse(input) {
-        Ok(script) => perform(input, script, output),
-        Err(bad) => script::printing::put_bad_file(output, 0, bad.line as u64),
+        Ok(script) => perform(input, script, &mut page),
+        Err(bad) => page.put_bad_file(bad.line as u64),
     }
+    page.at
 }

@@ -3,13 +3,13 @@ use mathlib.Core.Path.{◌≡◌, refl, sym, ap, ◌∙◌}
 use mathlib.Core.Logic.{⊎_elim}
 use mathlib.Core.List.{List, [], ◌∷◌, ◌++◌}
 use Prim.Native.Nat.{ℕ, zero, suc, ◌+◌, ◌/◌, ◌%◌, ◌≤◌, ◌<◌}
-use native.Mathlib.Numerals.{add-one}
 use native.Mathlib.Omega.{arith}
 use borrow.Author.Tests.{lt-ltb, le-ltb}
-use lib.ListN.{length, get_or, set, drop, drop_of_length-le}
-use lib.Seq.{drop-cons}
+use lib.ListN.{length, set}
 use Rattle.model.proofs.Choice.{order}
-use Rattle.script.specs.Printing.{decimal_in, decimal, line1, line2, Page, page, put, written}
+use Rattle.script.specs.declared.printing.Page.{Page as Lent}
+use Rattle.script.specs.Printing.{decimal_in, decimal, Page, page, put, written}
+use Rattle.script.specs.Pages.{seen, Writes}
 
 pub put_room : (bytes : List ℕ) (at b : ℕ) → at < length bytes → put (page bytes at) b ≡ page (set bytes at b) (at + 1)
 unfolding put
@@ -24,23 +24,30 @@ unfolding written
 written_append p [] b = refl
 written_append p (x ∷ a) b = written_append (put p x) a b
 
-pub written_line1 : (p : Page) (n : ℕ) → written p (line1 n) ≡ put (written p (decimal n)) 10
-unfolding line1 written
-written_line1 p n = written_append p (decimal n) (10 ∷ [])
+-- what is written one behind the other is written
+pub writes_then : {p q r : Lent} {a b : List ℕ} → Writes p q a → Writes q r b → Writes p r (a ++ b)
+writes_then {p} {q} {r} {a} {b} h k =
+    record {
+      same_reference = k.same_reference ∙ h.same_reference;
+      page = k.page ∙ ap (λ (x : Page). written x b) h.page ∙ sym (written_append (seen p) a b);
+    }
 
-pub written_line2 : (p : Page) (a b : ℕ) → written p (line2 a b) ≡ written (put (written p (decimal a)) 32) (line1 b)
-unfolding line2 written
-written_line2 p a b = written_append p (decimal a) (32 ∷ line1 b)
-
--- a text from a place on: nothing is left, or a byte and what follows it
-pub written_none : (p : Page) (text : List ℕ) (i : ℕ) → length text ≤ i → written p (drop i text) ≡ p
+pub writes_none : (p : Lent) → Writes p p []
 unfolding written
-written_none p text i h = rw (drop_of_length-le text {i = i} h)
+writes_none p = record { same_reference = refl; page = refl }
 
-pub written_more : (p : Page) (text : List ℕ) (i : ℕ) → i < length text
-    → written p (drop i text) ≡ written (put p (get_or text i 0)) (drop (i + 1) text)
+pub written_one : (p : Page) (b : ℕ) → written p (b ∷ []) ≡ put p b
 unfolding written
-written_more p text i h = rw (add-one, drop-cons text i 0 h)
+written_one p b = refl
+
+-- one byte, where there is room for it, and where there is none
+pub writes_room : (p q : Lent) (b : ℕ) → p.at < length p.out.now → q.out.ghost_name ≡ p.out.ghost_name → q.out.now ≡ set p.out.now p.at b
+    → q.at ≡ p.at + 1 → Writes p q (b ∷ [])
+writes_room p q b h e f g =
+    record { same_reference = e; page = rw (written_one (seen p) b, put_room p.out.now p.at b h, f, g) }
+
+pub writes_full : (p : Lent) (b : ℕ) → length p.out.now ≤ p.at → Writes p p (b ∷ [])
+writes_full p b h = record { same_reference = refl; page = rw (written_one (seen p) b, put_full p.out.now p.at b h) }
 
 -- A number below ten is one digit; any other its tenth's digits and its last.
 last_digit : (k n : ℕ) → n < 10 → decimal_in k n ≡ (n + 48) ∷ []
@@ -72,11 +79,3 @@ decimal_more zero h = absurd (omega arith)
 decimal_more (suc n) h =
     first_digits n (suc n) h
     ∙ ap (λ (l : List ℕ). l ++ ((suc n % 10 + 48) ∷ [])) (digits_enough n (suc n / 10) (suc n / 10) (omega arith) (omega arith))
-
-pub written_small : (p : Page) (n : ℕ) → n < 10 → written p (decimal n) ≡ put p (n + 48)
-unfolding written
-written_small p n h = rw (decimal_small n h)
-
-pub written_large : (p : Page) (n : ℕ) → 10 ≤ n → written p (decimal n) ≡ put (written p (decimal (n / 10))) (n % 10 + 48)
-unfolding written
-written_large p n h = rw (decimal_more n h) (written_append p (decimal (n / 10)) ((n % 10 + 48) ∷ []))

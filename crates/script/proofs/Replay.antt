@@ -12,8 +12,8 @@ use Rattle.std.specs.Prelude.{Result, Ok, Err}
 use Rattle.script.specs.declared.Script.{Script}
 use Rattle.script.specs.declared.BadFile.{BadFile}
 use Rattle.script.specs.Lines.{parse}
-use Rattle.script.specs.Printing.{line1, line2, bad_file, too_long, Page, written}
-use Rattle.script.specs.Replay.{answer_lines, five_totals, printed, first_run, second_run, replayed, replay_text}
+use Rattle.script.specs.Printing.{line2, bad_file, too_long, Page, written}
+use Rattle.script.specs.Replay.{answer_lines, printed, first_run, second_run, replayed, replay_text}
 use Rattle.script.proofs.Pages.{written_append}
 
 -- "at most 65,536 bytes (else prints `too long`)"
@@ -46,10 +46,3 @@ answers_more p f s t l =
 -- numbers laid out as words are read back
 pub words_there : (words vs : List ℕ) (i : ℕ) → length vs ≤ length words → i < length vs → get_or (sets words 0 vs) i 0 ≡ get_or vs i 0
 words_there words vs i h p = rw (sets-eq vs words 0 (omega arith)) (get_or-append vs (drop (0 + length vs) words) 0 i p)
-
--- the totals' lines, one behind the other
-pub totals_written : (p : Page) (begun committed aborted swaps filled : ℕ) → written p (five_totals begun committed aborted swaps filled)
-    ≡ written (written (written (written (written (written p (line1 5)) (line1 begun)) (line1 committed)) (line1 aborted)) (line1 swaps))
-    (line1 filled)
-unfolding five_totals
-totals_written p begun committed aborted swaps filled = simp written_append

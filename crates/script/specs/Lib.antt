@@ -1,6 +1,7 @@
 pub mod Numbers
 pub mod Lines
 pub mod Printing
+pub mod Pages
 pub mod Texts
 pub mod Replay
 pub mod Sizes

@@ -1,99 +1,107 @@
-// Printing: numbers and lines on a page of lent bytes, each function from a place to the next.
-ghost use Rattle.std.specs.Prelude.{◌≡◌, ◌+◌, ◌<◌};
-ghost use Rattle.script.specs.Printing.{page, put, written, decimal, line1, line2, bad_file, too_long};
+// Printing: numbers and lines on a page of lent bytes.
+ghost use Rattle.std.specs.Prelude.{◌≡◌, [], ◌∷◌};
+ghost use Rattle.script.specs.Printing.{page, decimal, line1, line2, bad_file, too_long};
+ghost use Rattle.script.specs.Pages.{seen, Writes};
 ghost use Rattle.script.specs.Replay.{five_totals};
 
 use super::{LF, SPACE};
 
-// One byte more on a page; what has no room is not written.
-fn put(out: &mut [u8], at: usize, b: u8) -> usize
-    ensures { page out.new result ≡ put (page out.old at) b }
-{
-    if at < out.len() {
-        out[at] = b;
-        return at + 1;
+// Lent bytes and the place of the next one; what has no room is not written.
+#[derive(Drop)]
+pub struct Page<'a> {
+    pub out: &'a mut [u8],
+    pub at: usize,
+}
+
+// "five totals: begun, committed, aborted, all swaps, fill"
+#[derive(Clone, Copy)]
+pub struct Totals {
+    pub begun: u32,
+    pub committed: u32,
+    pub aborted: u32,
+    pub swaps: u64,
+    pub fill: u32,
+}
+
+impl<'a> Page<'a> {
+    // Nothing is written yet.
+    pub fn new(out: &'a mut [u8]) -> Page<'a>
+        ensures same_reference { result.out.ghost_name ≡ out.entry.ghost_name }
+        ensures blank { seen result ≡ page out.old 0 }
+    {
+        Page { out, at: 0 }
     }
-    at
-}
 
-// A digit's byte.
-fn digit(d: u64) -> u8
-    requires { d < 10 }
-    ensures { result ≡ d + 48 }
-{
-    (d + 48) as u8
-}
-
-// A number in decimal, no needless leading zero.
-fn put_number(out: &mut [u8], at: usize, n: u64) -> usize
-    ensures { page out.new result ≡ written (page out.old at) (decimal n) }
-{
-    if n < 10 {
-        return put(out, at, digit(n));
+    // One byte more.
+    fn put(&mut self, b: u8)
+        ensures { Writes self.old self.new (b ∷ []) }
+    {
+        if self.at < self.out.len() {
+            self.out[self.at] = b;
+            self.at += 1;
+        }
     }
-    let next = put_number(out, at, n / 10);
-    put(out, next, digit(n % 10))
-}
 
-// A line of one number.
-pub fn put_line(out: &mut [u8], at: usize, n: u64) -> usize
-    ensures { page out.new result ≡ written (page out.old at) (line1 n) }
-{
-    let next = put_number(out, at, n);
-    put(out, next, LF)
-}
-
-// "answer and value": a line of two numbers.
-pub fn put_pair(out: &mut [u8], at: usize, answer: u32, value: u32) -> usize
-    ensures { page out.new result ≡ written (page out.old at) (line2 answer value) }
-{
-    let next = put_number(out, at, answer as u64);
-    let third = put(out, next, SPACE);
-    put_line(out, third, value as u64)
-}
-
-// Bytes as they are.
-fn put_text(out: &mut [u8], at: usize, text: &[u8]) -> usize
-    ensures { page out.new result ≡ written (page out.old at) text.now }
-{
-    let mut next = at;
-    for i in 0..text.len() {
-        next = put(out, next, text[i]);
+    // A number in decimal, no needless leading zero.
+    fn put_number(&mut self, n: u64)
+        ensures { Writes self.old self.new (decimal n) }
+    {
+        if 10 <= n {
+            self.put_number(n / 10);
+        }
+        self.put((n % 10) as u8 + b'0');
     }
-    next
-}
 
-// `bad file N`
-pub fn put_bad_file(out: &mut [u8], at: usize, line: u64) -> usize
-    ensures { page out.new result ≡ written (page out.old at) (bad_file line) }
-{
-    let next = put_text(out, at, b"bad file ");
-    put_line(out, next, line)
-}
+    // A line of one number.
+    pub fn put_line(&mut self, n: u64)
+        ensures { Writes self.old self.new (line1 n) }
+    {
+        self.put_number(n);
+        self.put(LF);
+    }
 
-// `too long`
-pub fn put_too_long(out: &mut [u8], at: usize) -> usize
-    ensures { page out.new result ≡ written (page out.old at) too_long }
-{
-    put_text(out, at, b"too long\n")
-}
+    // "answer and value": a line of two numbers.
+    pub fn put_pair(&mut self, answer: u32, value: u32)
+        ensures { Writes self.old self.new (line2 answer value) }
+    {
+        self.put_number(answer as u64);
+        self.put(SPACE);
+        self.put_line(value as u64);
+    }
 
-// "then five totals: begun, committed, aborted, all swaps, fill", after their count
-pub fn put_totals(
-    out: &mut [u8],
-    at: usize,
-    begun: u32,
-    committed: u32,
-    aborted: u32,
-    swaps: u64,
-    fill: u32,
-) -> usize
-    ensures { page out.new result ≡ written (page out.old at) (five_totals begun committed aborted swaps fill) }
-{
-    let first = put_line(out, at, 5);
-    let second = put_line(out, first, begun as u64);
-    let third = put_line(out, second, committed as u64);
-    let fourth = put_line(out, third, aborted as u64);
-    let fifth = put_line(out, fourth, swaps);
-    put_line(out, fifth, fill as u64)
+    // Bytes as they are.
+    fn put_text(&mut self, text: &[u8])
+        ensures { Writes self.old self.new text.now }
+    {
+        for b in text {
+            self.put(*b);
+        }
+    }
+
+    // `bad file N`
+    pub fn put_bad_file(&mut self, line: u64)
+        ensures { Writes self.old self.new (bad_file line) }
+    {
+        self.put_text(b"bad file ");
+        self.put_line(line);
+    }
+
+    // `too long`
+    pub fn put_too_long(&mut self)
+        ensures { Writes self.old self.new too_long }
+    {
+        self.put_text(b"too long\n");
+    }
+
+    // "then five totals", after their count
+    pub fn put_totals(&mut self, t: Totals)
+        ensures { Writes self.old self.new (five_totals t.begun t.committed t.aborted t.swaps t.fill) }
+    {
+        self.put_line(5);
+        self.put_line(t.begun as u64);
+        self.put_line(t.committed as u64);
+        self.put_line(t.aborted as u64);
+        self.put_line(t.swaps);
+        self.put_line(t.fill as u64);
+    }
 }
