@@ -8,6 +8,7 @@ use Prim.Native.Nat.{ℕ, zero, suc, ◌≤◌, ◌<◌}
 use native.Mathlib.Omega.{arith}
 use lib.ListN.{length, get_or, length-set, length-map}
 use borrow.Author.Tests.{lt-ltb, le-ltb, ne_eqb}
+use Rattle.model.specs.declared.Control.{Control}
 use Rattle.model.specs.declared.Row.{Row}
 use Rattle.model.specs.declared.Answer.TheVariants.{Refused}
 use Rattle.model.specs.declared.Stepped.{Stepped}
@@ -61,18 +62,18 @@ marked_rows : (b : Bool) (s : State) → Rows s → (length (marked b s.table) �
 marked_rows true s R = (length-map s.table cleared ∙ R.eight, four_after_clear R.four)
 marked_rows false s R = (R.eight, R.four)
 
-by_placed : (s : State) (t : Step) (o : Kept) → Rows s → act s t ≡ placed s o → turn_on (lent_of s) t ≡ kept_turn (lent_of s) o → Acts s t
+by_placed : (s : State) (t : Step) (o : Kept Control) → Rows s → act s t ≡ placed s o → turn_on (lent_of s) t ≡ kept_turn (lent_of s) o → Acts s t
 by_placed s t o R e f =
     record {
       turn =
           f
-          ∙ ap (λ (w : List ℕ). turn o.answer (lent o.control (changed s.arena o.change) w))
+          ∙ ap (λ (w : List ℕ). turn o.answer (lent o.next (changed s.arena o.change) w))
           (clear_if_lem o.clear s.table R.eight)
           ∙ ap lent_outcome (sym e);
       rows = let m = marked_rows o.clear s R in rw e (record { eight = m.0; four = m.1 });
     }
 
-closing_last : (l : Lent) (b : Bool) (k m : Kept) → pick (not b) (kept_turn l m) (kept_turn l k) ≡ kept_turn l (pick b k m)
+closing_last : (l : Lent) (b : Bool) (k m : Kept Control) → pick (not b) (kept_turn l m) (kept_turn l k) ≡ kept_turn l (pick b k m)
 closing_last l true k m = refl
 closing_last l false k m = refl
 

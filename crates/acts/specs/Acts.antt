@@ -15,12 +15,9 @@ use Rattle.model.specs.Steps.{Step, Name, ADMIT, RETIRE, BEGIN, ADVANCE, ATTACH,
 use Rattle.model.specs.Steps.{keeper_codes, client_codes}
 use Rattle.clients.specs.Turns.{client_turn}
 use Rattle.mover.specs.declared.Kept.{Kept}
-use Rattle.mover.specs.declared.Moved.{Moved}
 use Rattle.mover.specs.Kept.{on_move, closing, close_kept, advance_move}
 use Rattle.keeper.specs.Kept.{retire_step, begin_step, admit_step, admit_arena}
 use Rattle.table.specs.Words.{row_read, rows_read, put_row, put_phase, put_swaps, each_row, clear_mark}
-use Rattle.acts.specs.declared.Moving.{Moving}
-use Rattle.acts.specs.declared.Turned.{Turned}
 
 -- A client's step: arena and table after it, and the answer
 pub record Left : Type 0 where
@@ -72,8 +69,8 @@ clear_if true t = each_row clear_mark t 8
 clear_if false t = t
 
 -- what the keeper's functions leave, stored
-abbrev pub kept_turn : Lent → Kept → Turn
-kept_turn l o = turn o.answer (lent o.control (changed l.arena o.change) (clear_if o.clear l.table))
+abbrev pub kept_turn : Lent → Kept Control → Turn
+kept_turn l o = turn o.answer (lent o.next (changed l.arena o.change) (clear_if o.clear l.table))
 
 abbrev pub passed_all : Lent → Bool
 passed_all l = all_passed (rows_read l.table)
@@ -82,7 +79,7 @@ passed_all l = all_passed (rows_read l.table)
 abbrev pub keeper_turn : Name → Lent → ℕ → ℕ → Turn
 keeper_turn ADMIT l x y =
     turn (admit_step l.control x y).answer
-    (lent (admit_step l.control x y).control (admit_arena l.control l.arena x y) l.table)
+    (lent (admit_step l.control x y).next (admit_arena l.control l.arena x y) l.table)
 keeper_turn RETIRE l x y =
     kept_turn l (retire_step l.control l.arena (any (holds_cell (entry l.control.dir x)) (rows_read l.table)) x)
 keeper_turn BEGIN l x y = kept_turn l (begin_step l.control l.arena x)
@@ -126,13 +123,14 @@ pub record LeftDoes (a t : List ℕ) (r : Answer) (o : Left) : Type 0 where
   pub table : t ≡ o.table
   pub answer : r ≡ o.answer
 
-pub record MoveDoes (a₀ t₀ a t : List ℕ) (r : Moving) (o : Moved) : Type 0 where
+pub record KeptDoes {T : Type 0} (a₀ t₀ : List ℕ) (x : T) (a t : List ℕ) (r : Answer) (o : Kept T) : Type 0 where
+  pub next : x ≡ o.next
   pub arena : a ≡ changed a₀ o.change
   pub table : t ≡ clear_if o.clear t₀
-  pub mv : r.mv ≡ o.mv
-  pub answer : r.answer ≡ o.answer
+  pub answer : r ≡ o.answer
 
-pub record TurnDoes (a t : List ℕ) (r : Turned) (o : Turn) : Type 0 where
+pub record TurnDoes (c : Control) (a t : List ℕ) (r : Answer) (o : Turn) : Type 0 where
+  pub control : c ≡ o.next.control
   pub arena : a ≡ o.next.arena
   pub table : t ≡ o.next.table
-  pub result : r ≡ record { control = o.next.control; answer = o.answer }
+  pub answer : r ≡ o.answer

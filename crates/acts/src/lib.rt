@@ -1,40 +1,25 @@
-// One step on what is lent: the control record by value, arena and table as words, a row decoded for its step.
+// One step on what is lent: the control record, arena and table as words, a row decoded for its step.
 // Knows nothing of sizes or soundness; on words that mean no rows it is still defined.
 #![tactic(auto)]
 
-ghost use Rattle.std.specs.Prelude.{◌≡◌, length, get_or};
+ghost use Rattle.std.specs.Prelude.{◌≡◌, get_or};
 ghost use Rattle.model.specs.State.{stage_of};
 ghost use Rattle.model.specs.Steps.{keeper_codes, client_codes, UNKNOWN};
 ghost use Rattle.mover.specs.Kept.{advance_move};
 ghost use Rattle.table.specs.Words.{put_row, put_phase, put_swaps};
-ghost use Rattle.acts.specs.Acts.{client_left, lent, clear_if, kept_turn, keeper_turn, by_move, LeftDoes, MoveDoes, TurnDoes};
+ghost use Rattle.acts.specs.Acts.{client_left, lent, clear_if, keeper_turn, by_move, LeftDoes, KeptDoes, TurnDoes};
 
 use clients::settle;
 use model::{Access, Answer, Control, Move, Reason, Stepped};
-
-// What ADVANCE on the move alone leaves.
-#[derive(Clone, Copy)]
-pub struct Moving {
-    pub mv: Move,
-    pub answer: Answer,
-}
-
-// The control record after a step, or after a run of steps, and its last answer.
-#[derive(Clone, Copy)]
-pub struct Turned {
-    pub control: Control,
-    pub answer: Answer,
-}
+use mover::Kept;
 
 // ATTACH, DETACH, OPEN, DROP and REST: the whole row is stored.
 fn keep_row(table: &mut [u32], i: u32, o: Stepped) -> Answer
     ensures stored { table.new ≡ put_row table.old i o.row }
     ensures told { result ≡ o.answer }
 {
-    let row = o.row;
-    let answer = o.answer;
-    table::put_row_at(table, i, row);
-    answer
+    table::put_row_at(table, i, o.row);
+    o.answer
 }
 
 // READ and WRITE change the phase alone.
@@ -42,11 +27,8 @@ fn keep_phase(table: &mut [u32], i: u32, o: Stepped) -> Answer
     ensures stored { table.new ≡ put_phase table.old i o.row.phase }
     ensures told { result ≡ o.answer }
 {
-    let row = o.row;
-    let phase = row.phase;
-    let answer = o.answer;
-    table::put_phase_at(table, i, phase);
-    answer
+    table::put_phase_at(table, i, o.row.phase);
+    o.answer
 }
 
 // GO changes the swaps and the phase.
@@ -54,12 +36,9 @@ fn keep_swap(table: &mut [u32], i: u32, o: Stepped) -> Answer
     ensures stored { table.new ≡ put_phase (put_swaps table.old i o.row.swaps) i o.row.phase }
     ensures told { result ≡ o.answer }
 {
-    let row = o.row;
-    let phase = row.phase;
-    let answer = o.answer;
-    table::put_swaps_at(table, i, row.swaps);
-    table::put_phase_at(table, i, phase);
-    answer
+    table::put_swaps_at(table, i, o.row.swaps);
+    table::put_phase_at(table, i, o.row.phase);
+    o.answer
 }
 
 // A client's step on row i; "Unused numbers are ignored."
@@ -119,6 +98,17 @@ fn clear_if(table: &mut [u32], clear: bool)
     }
 }
 
+// What a keeper's step leaves of what it takes, the move alone or the whole control record, stored.
+fn put_kept<T: Copy>(whole: &mut T, arena: &mut [u32], table: &mut [u32], kept: Kept<T>) -> Answer
+    ensures { KeptDoes arena.old table.old whole.new arena.new table.new result kept }
+{
+    *whole = kept.next;
+    record::apply(arena, kept.change);
+    clear_if(table, kept.clear);
+    kept.answer
+}
+
+#[tactic(auto, unfolding(crate::specs::Acts::by_move))]
 // Whether a keeper's step needs the move alone: ADVANCE, but for a second or third barrier that all have passed.
 pub fn by_move(code: u32, mv: Move, passed: bool) -> bool
     ensures { result ≡ by_move code mv passed }
@@ -127,71 +117,38 @@ pub fn by_move(code: u32, mv: Move, passed: bool) -> bool
 }
 
 // 4 ADVANCE on the move alone.
-pub fn advance(arena: &mut [u32], table: &mut [u32], mv: Move, passed: bool) -> Moving
-    ensures { MoveDoes arena.old table.old arena.new table.new result
-        (advance_move arena.old mv passed (stage_of mv.stage)) }
+pub fn advance(mv: &mut Move, arena: &mut [u32], table: &mut [u32], passed: bool) -> Answer
+    ensures { KeptDoes arena.old table.old mv.new arena.new table.new result
+        (advance_move arena.old mv.old passed (stage_of mv.old.stage)) }
 {
-    let o = mover::advance(arena, mv, passed);
-    let next = o.mv;
-    let change = o.change;
-    let answer = o.answer;
-    record::apply(arena, change);
-    clear_if(table, o.clear);
-    Moving { mv: next, answer }
+    let kept = mover::advance(arena, *mv, passed);
+    put_kept(mv, arena, table, kept)
 }
 
-// What a keeper's step on the whole control record leaves, stored.
-fn put_kept(arena: &mut [u32], table: &mut [u32], kept: mover::Kept) -> Turned
-    ensures { TurnDoes arena.new table.new result
-        (kept_turn (lent kept.control arena.old table.old) kept) }
-{
-    let control = kept.control;
-    let change = kept.change;
-    let answer = kept.answer;
-    record::apply(arena, change);
-    clear_if(table, kept.clear);
-    Turned { control, answer }
-}
-
-// The keeper's steps on the whole control record.
+// The keeper's steps on the whole control record; a refused one changes nothing.
 pub fn keep(
-    control: Control,
+    control: &mut Control,
     arena: &mut [u32],
     table: &mut [u32],
     code: u32,
     a: u32,
     b: u32,
-) -> Turned
-    ensures { TurnDoes arena.new table.new result
-        (keeper_turn (get_or keeper_codes code UNKNOWN) (lent control arena.old table.old) a b) }
+) -> Answer
+    ensures { TurnDoes control.new arena.new table.new result
+        (keeper_turn (get_or keeper_codes code UNKNOWN) (lent control.old arena.old table.old) a b) }
 {
-    match code {
-        1 => {
-            let o = keeper::admit(control, arena, a, b);
-            let next = o.control;
-            let answer = o.answer;
-            Turned {
-                control: next,
-                answer,
-            }
-        }
+    let result = match code {
+        1 => keeper::admit(*control, arena, a, b),
         2 => {
             let cell = directory::entry_of(&control.dir, a) as u32;
-            let held = table::holds_cell(table, cell);
-            let o = keeper::retire(control, arena, held, a);
-            put_kept(arena, table, o)
+            keeper::retire(*control, arena, table::holds_cell(table, cell), a)
         }
-        3 => {
-            let o = keeper::begin(control, arena, a);
-            put_kept(arena, table, o)
-        }
-        4 => {
-            let o = mover::close(control, arena);
-            put_kept(arena, table, o)
-        }
-        0 | 5..=4294967295 => Turned {
-            control,
-            answer: Answer::Refused(4),
-        },
+        3 => keeper::begin(*control, arena, a),
+        4 => Ok(mover::close(*control, arena)),
+        0 | 5..=4294967295 => Err(Reason::Unknown),
+    };
+    match result {
+        Ok(kept) => put_kept(control, arena, table, kept),
+        Err(reason) => Answer::from(reason),
     }
 }

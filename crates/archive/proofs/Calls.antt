@@ -24,7 +24,7 @@ use Rattle.model.proofs.Calls.{RunSizes, says_run_sizes, steps_length, slots_len
 use Rattle.model.proofs.Answered.{answered}
 use Rattle.table.specs.Words.{table_words, rows_of, each_row, freshen}
 use Rattle.table.proofs.Rows.{fresh_rows}
-use Rattle.acts.specs.declared.Turned.{Turned}
+use Rattle.turns.specs.declared.Turned.{Turned}
 use Rattle.acts.specs.Acts.{Lent, lent}
 use Rattle.acts.proofs.Acts.{lent_of}
 use Rattle.turns.specs.Runs.{going, turns_from, RunDoes}

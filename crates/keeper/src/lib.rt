@@ -1,86 +1,52 @@
-// ADMIT, RETIRE and BEGIN, and what refuses them: each takes the control record by value and gives it back.
+// ADMIT, RETIRE and BEGIN, and what refuses them: each takes the control record by value and gives it back, or the reason of its refusal.
 // Knows nothing of rows: whether some row holds a record is told; the caller clears the marks.
 #![tactic(auto)]
 
-ghost use Rattle.std.specs.Prelude.{◌≡◌, length};
-ghost use Rattle.model.specs.State.{stage_of, in_hand};
+ghost use Rattle.std.specs.Prelude.{◌≡◌, IfOk};
+ghost use Rattle.model.specs.State.{in_hand, entry};
 ghost use Rattle.model.specs.KeeperSteps.{first_move};
 ghost use Rattle.model.specs.Choice.{given};
-ghost use Rattle.keeper.specs.Kept.{refused_kept, record_refusals, new_refusals, retire_step, begin_step, admit_step, admit_arena};
+ghost use Rattle.answers.specs.Answers.{refused_by};
+ghost use Rattle.keeper.specs.Kept.{settled, record_refusals, new_refusals, retire_step, begin_step, admit_step, admit_arena};
 
+use answers::refuse_if;
 use cells::Cell;
-use directory::{entry_of, set_entry};
-use model::{Answer, Control, Move, Put};
-use mover::Kept;
+use directory::{ABSENT, find, set_entry};
+use model::{Answer, Control, Move, Put, Reason, Stage};
+use mover::{Kept, stay};
+use record::Header;
 
-// "absent (65535)"
-const NONE: u16 = 65535;
-
-// where a search finds nothing
-const NOWHERE: u32 = 65535;
-
-// the end of a count of 32 bits
-const LAST: u32 = 4294967295;
-
-fn in_hand(stage: u32) -> bool
-    ensures { result ≡ in_hand (stage_of stage) }
+fn in_hand(stage: Stage) -> bool
+    ensures { result ≡ in_hand stage }
 {
-    match stage {
-        1..=4 => true,
-        _ => false,
-    }
+    stage != Stage::NoMove
 }
 
-fn refused(control: Control, n: u32) -> Kept
-    ensures { result ≡ refused_kept control n }
+// The record of a meter, by its start cell: refused by 5, 8 or 10, which RETIRE and BEGIN have in common.
+fn record_of(control: &Control, meter: u32) -> Result<u16, Reason>
+    ensures refused { refused_by result ≡ given (record_refusals control.now.dir control.now.mv.stage meter) }
+    ensures start { IfOk result (λ cell. cell ≡ entry control.now.dir meter) }
 {
-    Kept {
-        control,
-        change: None,
-        clear: false,
-        answer: Answer::Refused(n),
-    }
-}
-
-// 5, 8 and 10, which RETIRE and BEGIN have in common; 0 where none applies.
-fn record_refusal(dir: &[u16; 256], stage: u32, meter: u32) -> u32
-    requires { length dir.now ≡ 256 }
-    ensures { result ≡ given (record_refusals dir.now stage meter) }
-{
-    if 255 < meter {
-        return 5;
-    }
-    if in_hand(stage) {
-        return 8;
-    }
-    if entry_of(dir, meter) == NONE {
-        return 10;
-    }
-    0
+    refuse_if(255 < meter, Reason::TooLarge)?;
+    refuse_if(in_hand(Stage::from(control.mv.stage)), Reason::Busy)?;
+    find(&control.dir, meter).ok_or(Reason::Absent)
 }
 
 // 2 "RETIRE a = meter. Directory entry absent, cells free."
-pub fn retire(control: Control, arena: &[u32], held: bool, meter: u32) -> Kept
-    ensures { result ≡ retire_step control arena.now held meter }
+#[tactic(auto, using(answers::proofs::Reasons::reason_positive), unfolding(crate::specs::Kept::retire_step))]
+pub fn retire(
+    mut control: Control,
+    arena: &[u32],
+    held: bool,
+    meter: u32,
+) -> Result<Kept<Control>, Reason>
+    ensures { settled control result ≡ retire_step control arena.now held meter }
 {
-    let mv = control.mv;
-    let n = record_refusal(&control.dir, mv.stage, meter);
-    if 0 < n {
-        return refused(control, n);
-    }
-    if held {
-        return refused(control, 11);
-    }
-    let cell = entry_of(&control.dir, meter);
-    let mut next = control;
-    mover::free_block(&mut next.map, arena, cell, cell);
-    set_entry(&mut next.dir, meter, NONE);
-    Kept {
-        control: next,
-        change: None,
-        clear: false,
-        answer: Answer::Done(0),
-    }
+    let cell = record_of(&control, meter)?;
+    refuse_if(held, Reason::Held)?;
+    mover::free_block(&mut control.map, arena, cell, cell);
+    set_entry(&mut control.dir, meter, ABSENT);
+    Ok(stay(control, Answer::Done(0)))
 }
 
 // "the stage is first barrier"; "words copied is 0 at the first barrier"
@@ -88,7 +54,7 @@ fn first_move(meter: u32, from: u16, target: u16) -> Move
     ensures { result ≡ first_move meter from target }
 {
     Move {
-        stage: 1,
+        stage: u32::from(Stage::FirstBarrier),
         meter,
         from,
         target,
@@ -98,81 +64,55 @@ fn first_move(meter: u32, from: u16, target: u16) -> Move
 
 // 3 "BEGIN a = meter. The target is the lowest free run of the record's length. Its cells become used, the flag is set, begun rises
 // by one, passed marks are cleared, the stage is first barrier."
-pub fn begin(control: Control, arena: &[u32], meter: u32) -> Kept
-    ensures { result ≡ begin_step control arena.now meter }
+#[tactic(auto, using(answers::proofs::Reasons::reason_positive, model::proofs::ByKind::cells_short), unfolding(crate::specs::Kept::begin_step))]
+pub fn begin(mut control: Control, arena: &[u32], meter: u32) -> Result<Kept<Control>, Reason>
+    ensures { settled control result ≡ begin_step control arena.now meter }
 {
-    let mv = control.mv;
-    let n = record_refusal(&control.dir, mv.stage, meter);
-    if 0 < n {
-        return refused(control, n);
-    }
-    let from = entry_of(&control.dir, meter);
+    let from = record_of(&control, meter)?;
     let cell = from as u32;
-    let lengths = record::lengths_at(arena, cell);
-    let old = control.map;
-    let target = cells::lowest_run(old, lengths.cells);
-    if cell <= target {
-        return refused(control, 13);
-    }
-    if control.begun == LAST {
-        return refused(control, 15);
-    }
-    let first = first_move(meter, from, target as u16);
-    let mut next = control;
-    cells::put_run(&mut next.map, target, lengths.cells, Cell::Used);
-    next.mv = first;
-    next.begun = mover::one_more(control.begun);
-    Kept {
-        control: next,
+    let length = record::lengths_at(arena, cell).cells;
+    let target = cells::find_run(&control.map, length)
+        .filter(|target| *target < cell)
+        .ok_or(Reason::NoneBelow)?;
+    control.begun = control.begun.checked_add(1).ok_or(Reason::Spent)?;
+    cells::put_run(&mut control.map, target, length, Cell::Used);
+    control.mv = first_move(meter, from, target as u16);
+    Ok(Kept {
+        next: control,
         change: Some(Put {
             at: record::place(cell, 0),
-            word: mover::flagged_header(from),
+            word: u32::from(Header::flagged(cell)),
         }),
         clear: true,
         answer: Answer::Begun(target),
-    }
+    })
 }
 
-// 5 and 7 of ADMIT; 0 where neither applies.
-fn admit_refusal(dir: &[u16; 256], meter: u32, kind: u32) -> u32
-    requires { length dir.now ≡ 256 }
-    ensures { result ≡ given (new_refusals dir.now meter kind) }
+// 5 and 7 of ADMIT.
+fn admissible(dir: &[u16; 256], meter: u32, kind: u32) -> Result<(), Reason>
+    ensures { refused_by result ≡ given (new_refusals dir.now meter kind) }
 {
-    if 255 < meter {
-        return 5;
-    }
-    if 3 < kind {
-        return 5;
-    }
-    if entry_of(dir, meter) != NONE {
-        return 7;
-    }
-    0
+    refuse_if(255 < meter, Reason::TooLarge)?;
+    refuse_if(3 < kind, Reason::TooLarge)?;
+    refuse_if(find(dir, meter).is_some(), Reason::Already)
 }
 
 // 1 "ADMIT a = meter, b = kind. Takes the lowest run of free cells long enough. Header 2c, label set, payload zero."
-pub fn admit(control: Control, arena: &mut [u32], meter: u32, kind: u32) -> Kept
-    ensures kept { result ≡ admit_step control meter kind }
+#[tactic(auto, using(answers::proofs::Reasons::reason_positive, model::proofs::ByKind::cells_short, model::proofs::CellMap::lowest_fits), unfolding(crate::specs::Kept::admit_step, crate::specs::Kept::admit_arena))]
+pub fn admit(
+    mut control: Control,
+    arena: &mut [u32],
+    meter: u32,
+    kind: u32,
+) -> Result<Kept<Control>, Reason>
+    ensures kept { settled control result ≡ admit_step control meter kind }
     ensures laid { arena.new ≡ admit_arena control arena.old meter kind }
 {
-    let n = admit_refusal(&control.dir, meter, kind);
-    if 0 < n {
-        return refused(control, n);
-    }
-    let lengths = record::lengths_of(kind);
-    let old = control.map;
-    let cell = cells::lowest_run(old, lengths.cells);
-    if cell == NOWHERE {
-        return refused(control, 12);
-    }
+    admissible(&control.dir, meter, kind)?;
+    let length = record::lengths_of(kind).cells;
+    let cell = cells::find_run(&control.map, length).ok_or(Reason::Full)?;
     record::lay_record(arena, cell as u16, meter as u8, kind as u8);
-    let mut next = control;
-    cells::put_run(&mut next.map, cell, lengths.cells, Cell::Used);
-    set_entry(&mut next.dir, meter, cell as u16);
-    Kept {
-        control: next,
-        change: None,
-        clear: false,
-        answer: Answer::Admitted(cell),
-    }
+    cells::put_run(&mut control.map, cell, length, Cell::Used);
+    set_entry(&mut control.dir, meter, cell as u16);
+    Ok(stay(control, Answer::Admitted(cell)))
 }

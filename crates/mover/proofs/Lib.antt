@@ -1,2 +1,1 @@
-pub mod Stages
 pub mod Acts

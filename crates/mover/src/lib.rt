@@ -3,67 +3,33 @@
 #![tactic(auto)]
 
 ghost use Rattle.std.specs.Prelude.{◌≡◌};
-ghost use Rattle.model.specs.Arena.{put_run, plain, flagged, cells_at};
-ghost use Rattle.model.specs.State.{stage_of, rise};
+ghost use Rattle.model.specs.Arena.{put_run, cells_at};
+ghost use Rattle.model.specs.State.{stage_of};
 ghost use Rattle.model.specs.KeeperSteps.{replica_word};
-ghost use Rattle.mover.specs.Kept.{stays, open_first, one_copied, copy_move, advance_move, commit_kept, end_move, call_off_kept};
+ghost use Rattle.mover.specs.Kept.{stays, open_first, copy_move, advance_move, commit_kept, end_move, call_off_kept};
 ghost use Rattle.mover.specs.Kept.{settle_kept, give_back_kept, closing, close_kept};
 
 use cells::Cell;
 use directory::set_entry;
-use model::{Answer, Control, Move, Put};
+use model::{Answer, Control, Move, Put, Reason, Stage};
+use record::Header;
 
-// What ADVANCE leaves where the move alone is concerned.
+// What a step leaves of what it takes, the move alone or the whole control record; the word of the arena that changes, if any; whether
+// marks are cleared; the answer.
 #[derive(Clone, Copy)]
-pub struct Moved {
-    pub mv: Move,
+pub struct Kept<T> {
+    pub next: T,
     pub change: Option<Put>,
     pub clear: bool,
     pub answer: Answer,
 }
 
-// What a step on the whole control record leaves.
-#[derive(Clone, Copy)]
-pub struct Kept {
-    pub control: Control,
-    pub change: Option<Put>,
-    pub clear: bool,
-    pub answer: Answer,
-}
-
-const NO_MOVE: Move = Move {
-    stage: 0,
-    meter: 0,
-    from: 0,
-    target: 0,
-    copied: 0,
-};
-
-// "2 × target cell + flag"
-fn plain_header(cell: u16) -> u32
-    ensures { result ≡ plain cell }
+// Of the arena nothing changes, and no mark is cleared.
+pub fn stay<T>(next: T, answer: Answer) -> Kept<T>
+    ensures { result ≡ stays next answer }
 {
-    record::pack(cell as u32, false)
-}
-
-pub fn flagged_header(cell: u16) -> u32
-    ensures { result ≡ flagged cell }
-{
-    record::pack(cell as u32, true)
-}
-
-// A count "rises by one".
-pub fn one_more(n: u32) -> u32
-    ensures { result ≡ rise n }
-{
-    std::num::wrapping_add_u32(n, 1)
-}
-
-fn stay(mv: Move, answer: Answer) -> Moved
-    ensures { result ≡ stays mv answer }
-{
-    Moved {
-        mv,
+    Kept {
+        next,
         change: None,
         clear: false,
         answer,
@@ -71,97 +37,93 @@ fn stay(mv: Move, answer: Answer) -> Moved
 }
 
 // "if any row has not passed, answer 22, nothing changes; else to copying, answer 23"
-fn open_first(mv: Move, passed: bool) -> Moved
+#[tactic(auto, unfolding(crate::specs::Kept::open_first))]
+fn open_first(mv: Move, passed: bool) -> Kept<Move>
     ensures { result ≡ open_first mv passed }
 {
     if !passed {
         return stay(mv, Answer::BarrierOpen);
     }
-    let mut next = mv;
-    next.stage = 2;
+    let next = Move {
+        stage: u32::from(Stage::Copying),
+        ..mv
+    };
     stay(next, Answer::CopyingStarts)
 }
 
 // "word 0 is 2 × target, every other word is copied"
+#[tactic(auto, using(record::proofs::Words::packed_plain), unfolding(model::specs::KeeperSteps::replica_word))]
 fn replica_word(arena: &[u32], mv: Move) -> u32
     ensures { result ≡ replica_word arena.now mv }
 {
     if mv.copied == 0 {
-        plain_header(mv.target)
+        u32::from(Header::plain(mv.target as u32))
     } else {
         record::load(arena, record::place(mv.from as u32, mv.copied))
     }
 }
 
-// The move with one word more copied.
-fn one_copied(mv: Move, stage: u32, change: Option<Put>, clear: bool) -> Moved
-    ensures { result ≡ one_copied mv stage change clear }
-{
-    let done = one_more(mv.copied);
-    let mut next = mv;
-    next.stage = stage;
-    next.copied = done;
-    Moved {
-        mv: next,
-        change,
-        clear,
-        answer: Answer::Copied(done),
-    }
-}
-
 // "writes one word of the replica, in order from 0 .. After the last word marks are cleared and the stage is second barrier."
-fn copy_word(arena: &[u32], mv: Move) -> Moved
+#[tactic(auto, unfolding(model::specs::State::rise, crate::specs::Kept::copy_move))]
+fn copy_word(arena: &[u32], mv: Move) -> Kept<Move>
     ensures { result ≡ copy_move arena.now mv }
 {
-    let lengths = record::lengths_at(arena, mv.from as u32);
-    let change = Some(Put {
-        at: record::place(mv.target as u32, mv.copied),
-        word: replica_word(arena, mv),
-    });
-    if one_more(mv.copied) == lengths.words {
-        one_copied(mv, 3, change, true)
+    let copied = mv.copied.wrapping_add(1);
+    let last = copied == record::lengths_at(arena, mv.from as u32).words;
+    let stage = if last {
+        Stage::SecondBarrier
     } else {
-        one_copied(mv, 2, change, false)
+        Stage::Copying
+    };
+    Kept {
+        next: Move {
+            stage: u32::from(stage),
+            copied,
+            ..mv
+        },
+        change: Some(Put {
+            at: record::place(mv.target as u32, mv.copied),
+            word: replica_word(arena, mv),
+        }),
+        clear: last,
+        answer: Answer::Copied(copied),
     }
 }
 
 // 4 ADVANCE, where the move alone is enough: the first barrier, copying, and any barrier that is open.
-pub fn advance(arena: &[u32], mv: Move, passed: bool) -> Moved
+pub fn advance(arena: &[u32], mv: Move, passed: bool) -> Kept<Move>
     ensures { result ≡ advance_move arena.now mv passed (stage_of mv.stage) }
 {
-    let stage = mv.stage;
-    match stage {
-        1 => open_first(mv, passed),
-        2 => copy_word(arena, mv),
-        3..=4 => stay(mv, Answer::BarrierOpen),
-        _ => stay(mv, Answer::Refused(9)),
+    match Stage::from(mv.stage) {
+        Stage::NoMove => stay(mv, Answer::from(Reason::Idle)),
+        Stage::FirstBarrier => open_first(mv, passed),
+        Stage::Copying => copy_word(arena, mv),
+        Stage::SecondBarrier | Stage::ThirdBarrier => stay(mv, Answer::BarrierOpen),
     }
 }
 
 // "Equal: header becomes 2 × target, directory entry the target, committed rises, marks are cleared, stage third barrier"
-fn commit(control: Control) -> Kept
+#[tactic(auto, using(record::proofs::Words::packed_plain), unfolding(model::specs::State::rise))]
+fn commit(mut control: Control) -> Kept<Control>
     ensures { result ≡ commit_kept control }
 {
-    let mut mv = control.mv;
-    let from = mv.from as u32;
-    let target = mv.target as u32;
-    mv.stage = 4;
-    let mut next = control;
-    set_entry(&mut next.dir, mv.meter, mv.target);
-    next.mv = mv;
-    next.committed = one_more(control.committed);
+    let mv = control.mv;
+    set_entry(&mut control.dir, mv.meter, mv.target);
+    control.mv.stage = u32::from(Stage::ThirdBarrier);
+    control.committed = control.committed.wrapping_add(1);
     Kept {
-        control: next,
+        next: control,
         change: Some(Put {
-            at: record::place(from, 0),
-            word: plain_header(mv.target),
+            at: record::place(mv.from as u32, 0),
+            word: u32::from(Header::plain(mv.target as u32)),
         }),
         clear: true,
-        answer: Answer::Committed(target),
+        answer: Answer::Committed(mv.target as u32),
     }
 }
 
 // "cells free": those of the block at a cell that is as long as the record at `from`.
+#[tactic(auto, using(model::proofs::ByKind::cells_short))]
 pub fn free_block(map: &mut [u64; 16], arena: &[u32], from: u16, cell: u16)
     ensures { map.new ≡ put_run map.old cell (cells_at arena.now from) 0 }
 {
@@ -170,38 +132,31 @@ pub fn free_block(map: &mut [u64; 16], arena: &[u32], from: u16, cell: u16)
 }
 
 // The block at a cell is freed, as long as the moved record; "no move in hand".
-fn end_move(control: Control, arena: &[u32], cell: u16) -> Control
+fn end_move(mut control: Control, arena: &[u32], cell: u16) -> Control
     ensures { result ≡ end_move control arena.now cell }
 {
-    let none = NO_MOVE;
-    let mut next = control;
-    free_block(&mut next.map, arena, control.mv.from, cell);
-    next.mv = none;
-    next
+    free_block(&mut control.map, arena, control.mv.from, cell);
+    control.mv = Move::default();
+    control
 }
 
 // "Not equal: the replica's cells are freed, aborted rises, no move in hand"
-fn call_off(control: Control, arena: &[u32]) -> Kept
+#[tactic(auto, unfolding(model::specs::State::rise))]
+fn call_off(control: Control, arena: &[u32]) -> Kept<Control>
     ensures { result ≡ call_off_kept control arena.now }
 {
-    let mv = control.mv;
-    let mut next = end_move(control, arena, mv.target);
-    next.aborted = one_more(control.aborted);
-    Kept {
-        control: next,
-        change: None,
-        clear: false,
-        answer: Answer::CalledOff,
-    }
+    let mut next = end_move(control, arena, control.mv.target);
+    next.aborted = next.aborted.wrapping_add(1);
+    stay(next, Answer::CalledOff)
 }
 
 // The second barrier, all passed: "compare the header with 2 × from + 1".
-fn settle(control: Control, arena: &[u32]) -> Kept
+#[tactic(auto, unfolding(crate::specs::Kept::settle_kept))]
+fn settle(control: Control, arena: &[u32]) -> Kept<Control>
     ensures { result ≡ settle_kept control arena.now }
 {
-    let mv = control.mv;
-    let header = record::header_at(arena, mv.from as u32);
-    if header == flagged_header(mv.from) {
+    let from = control.mv.from as u32;
+    if record::read_header(arena, from) == Header::flagged(from) {
         commit(control)
     } else {
         call_off(control, arena)
@@ -209,44 +164,29 @@ fn settle(control: Control, arena: &[u32]) -> Kept
 }
 
 // The third barrier, all passed: "the old block's cells are freed, no move in hand".
-fn give_back(control: Control, arena: &[u32]) -> Kept
+fn give_back(control: Control, arena: &[u32]) -> Kept<Control>
     ensures { result ≡ give_back_kept control arena.now }
 {
-    let mv = control.mv;
-    let next = end_move(control, arena, mv.from);
-    Kept {
-        control: next,
-        change: None,
-        clear: false,
-        answer: Answer::GivenBack,
-    }
+    stay(end_move(control, arena, control.mv.from), Answer::GivenBack)
 }
 
 // Whether 4 ADVANCE needs the whole control record: at the second and third barrier, once all have passed.
 pub fn closes(mv: Move, passed: bool) -> bool
     ensures { result ≡ closing passed (stage_of mv.stage) }
 {
-    let stage = mv.stage;
-    match stage {
-        3..=4 => passed,
+    match Stage::from(mv.stage) {
+        Stage::SecondBarrier | Stage::ThirdBarrier => passed,
         _ => false,
     }
 }
 
 // 4 ADVANCE on the whole control record; at the other stages it changes nothing.
-pub fn close(control: Control, arena: &[u32]) -> Kept
+pub fn close(control: Control, arena: &[u32]) -> Kept<Control>
     ensures { result ≡ close_kept control arena.now (stage_of control.mv.stage) }
 {
-    let mv = control.mv;
-    let stage = mv.stage;
-    match stage {
-        3 => settle(control, arena),
-        4 => give_back(control, arena),
-        _ => Kept {
-            control,
-            change: None,
-            clear: false,
-            answer: Answer::BarrierOpen,
-        },
+    match Stage::from(control.mv.stage) {
+        Stage::SecondBarrier => settle(control, arena),
+        Stage::ThirdBarrier => give_back(control, arena),
+        _ => stay(control, Answer::BarrierOpen),
     }
 }

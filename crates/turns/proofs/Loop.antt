@@ -1,5 +1,5 @@
 -- The loop over the steps: which steps there are, one turn more, and none where no step is left. Assumes nothing.
-use Rattle.std.proofs.Common.{◌≡◌, refl, ap, ◌∙◌, List, [], true, false, ℕ, zero, suc, ◌+◌, ◌-◌, ◌*◌, ◌/◌, ◌≤◌, ◌<◌, min, length, get_or, take, drop, add-one, arith}
+use Rattle.std.proofs.Common.{◌≡◌, refl, ◌∙◌, List, [], true, false, ℕ, zero, suc, ◌+◌, ◌-◌, ◌*◌, ◌/◌, ◌≤◌, ◌<◌, min, length, get_or, take, drop, add-one, arith}
 use Rattle.std.specs.Simd.{first_chunks}
 use Rattle.std.proofs.lemmas.Bool.{false_from_ne_true}
 use Rattle.std.proofs.lemmas.List.{get_or-take}
@@ -12,9 +12,8 @@ use Rattle.model.specs.Steps.{step_at}
 use Rattle.model.proofs.Choice.{and_parts, and_no}
 use Rattle.table.proofs.Chunks.{chunk_at, word_in, first_in}
 use Rattle.answers.specs.Answers.{told_as}
-use Rattle.acts.specs.declared.Turned.{Turned}
-use Rattle.acts.specs.Acts.{lent, Turn, turn_on, TurnDoes}
-use Rattle.turns.specs.Runs.{step_of, numbers_at, Going, going, put_told, has_step, after, turns_from, StepDoes}
+use Rattle.acts.specs.Acts.{lent, turn_on, TurnDoes}
+use Rattle.turns.specs.Runs.{step_of, numbers_at, Going, going, put_told, has_step, after, turns_from}
 
 -- whether there is a step i
 pub step_there : (words slots i : ℕ) → i < 4096 → 5 * i + 4 < words → 2 * i + 1 < slots → has_step words slots i ≡ true
@@ -53,16 +52,6 @@ chunk_step ws i n h k =
       word_in 5 ws (5 * i) 4 (omega arith),
     )
 
--- the keeper's function on the whole control record does a step
-pub step_kept : {a t : List ℕ} {r : Turned} {o : Turn} → TurnDoes a t r o → StepDoes r.control a t r.answer o
-step_kept d =
-    record {
-      control = ap (λ (z : Turned). z.control) d.result;
-      arena = d.arena;
-      table = d.table;
-      answer = ap (λ (z : Turned). z.answer) d.result;
-    }
-
 pub turns_stop : (ws : List ℕ) (i n : ℕ) (g : Going) → has_step (length ws) (length g.slots) i ≡ false → turns_from ws i n g ≡ g
 unfolding turns_from
 turns_stop ws i zero g e = refl
@@ -80,7 +69,7 @@ turns_next ws i n g e = rw e
 pub turns_more : (ws : List ℕ) (i : ℕ) (whole : Going) (c : Control) (a t s : List ℕ) (x : Answer)
     {d : Control} {b u v : List ℕ} {y : Answer}
     → whole ≡ turns_from ws i (4096 - i) (going (lent c a t) s x) → i < min (min (length ws / 5) (length s / 2)) 4096
-    → StepDoes d b u y (turn_on (lent c a t) (step_at ws i)) → v ≡ put_told s i (told_as y)
+    → TurnDoes d b u y (turn_on (lent c a t) (step_at ws i)) → v ≡ put_told s i (told_as y)
     → whole ≡ turns_from ws (i + 1) (4096 - (i + 1)) (going (lent d b u) v y)
 turns_more ws i whole c a t s x w h o ev =
     let k : 4096 - i ≡ suc (4096 - (i + 1)) = omega arith in

@@ -2,14 +2,13 @@
 -- proofs/Runs joins it to the model's steps one by one, on the words of rows.
 use Rattle.std.specs.Prelude.{Bool, List, ◌≡◌, ℕ, zero, suc, ◌+◌, ◌*◌, ltb, length, set}
 use Rattle.model.specs.declared.Answer.{Answer}
-use Rattle.model.specs.declared.Control.{Control}
 use Rattle.model.specs.Choice.{pick, ◌and◌}
 use Rattle.model.specs.Steps.{Step, step, step_at}
 use Rattle.answers.specs.declared.Told.{Told}
 use Rattle.answers.specs.Answers.{told_as}
-use Rattle.acts.specs.declared.Turned.{Turned}
 use Rattle.acts.specs.Acts.{Lent, Turn, turn_on}
 use Rattle.turns.specs.declared.Numbers.{Numbers}
+use Rattle.turns.specs.declared.Turned.{Turned}
 
 -- "five words each": the numbers of step i
 abbrev pub numbers_at : List ℕ → ℕ → Numbers
@@ -45,13 +44,7 @@ turns_from ws i zero g = g
 turns_from ws i (suc n) g =
     pick (has_step (length ws) (length g.slots) i) (turns_from ws (suc i) n (after i g (turn_on g.lent (step_at ws i)))) g
 
--- What the functions do: a step, and a run
-pub record StepDoes (c : Control) (a t : List ℕ) (r : Answer) (o : Turn) : Type 0 where
-  pub control : c ≡ o.next.control
-  pub arena : a ≡ o.next.arena
-  pub table : t ≡ o.next.table
-  pub answer : r ≡ o.answer
-
+-- What a run does
 pub record RunDoes (a t s : List ℕ) (r : Turned) (g : Going) : Type 0 where
   pub arena : a ≡ g.lent.arena
   pub table : t ≡ g.lent.table

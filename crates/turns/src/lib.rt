@@ -5,10 +5,9 @@
 ghost use Rattle.std.specs.Prelude.{◌≡◌, ◌+◌, ◌*◌, ◌<◌, length};
 ghost use Rattle.model.specs.declared.Answer.TheVariants.{Done};
 ghost use Rattle.answers.specs.Answers.{told_as};
-ghost use Rattle.acts.specs.Acts.{lent, turn_on};
-ghost use Rattle.turns.specs.Runs.{step_of, going, put_told, turns_from, StepDoes, RunDoes};
+ghost use Rattle.acts.specs.Acts.{lent, turn_on, TurnDoes};
+ghost use Rattle.turns.specs.Runs.{step_of, going, put_told, turns_from, RunDoes};
 
-use acts::Turned;
 use answers::Told;
 use model::{Answer, Control, Reason};
 
@@ -23,6 +22,13 @@ pub struct Numbers {
     pub a: u32,
     pub b: u32,
     pub v: u32,
+}
+
+// The control record after a run of steps, and its last answer.
+#[derive(Clone, Copy)]
+pub struct Turned {
+    pub control: Control,
+    pub answer: Answer,
 }
 
 // "five words each"
@@ -41,24 +47,20 @@ impl From<[u32; 5]> for Numbers {
 // The keeper's step. ADVANCE on the move alone passes no control record.
 fn keep(control: &mut Control, arena: &mut [u32], table: &mut [u32], step: Numbers) -> Answer
     requires { step.who ≡ 0 }
-    ensures { StepDoes control.new arena.new table.new result
+    ensures { TurnDoes control.new arena.new table.new result
         (turn_on (lent control.old arena.old table.old) (step_of step)) }
 {
     let passed = table::all_passed(table);
     if acts::by_move(step.code, control.mv, passed) {
-        let o = acts::advance(arena, table, control.mv, passed);
-        control.mv = o.mv;
-        o.answer
+        acts::advance(&mut control.mv, arena, table, passed)
     } else {
-        let o = acts::keep(*control, arena, table, step.code, step.a, step.b);
-        *control = o.control;
-        o.answer
+        acts::keep(control, arena, table, step.code, step.a, step.b)
     }
 }
 
 // One step: "Who 0 is the keeper, 1 to 8 the clients."
 fn turn(control: &mut Control, arena: &mut [u32], table: &mut [u32], step: Numbers) -> Answer
-    ensures { StepDoes control.new arena.new table.new result
+    ensures { TurnDoes control.new arena.new table.new result
         (turn_on (lent control.old arena.old table.old) (step_of step)) }
 {
     match step.who {

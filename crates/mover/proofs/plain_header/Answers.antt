@@ -1,7 +1,0 @@
--- `plain_header`: a cell of sixteen bits has room in the header.
-use Rattle.std.proofs.Common.{arith}
-use Rattle.record.proofs.Words.{packed_plain}
-use Rattle.mover.proofs.plain_header.Goals as goal
-
-pub returns : goal.returns
-returns c = rw (packed_plain c.args.cell (omega arith)) at c.pack.ensures
