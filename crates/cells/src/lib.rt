@@ -8,8 +8,6 @@ ghost use Rattle.cells.specs.Words.{low_mask, high_mask, bit_of, masked, word_pu
 
 const CELLS: u32 = 1024;
 
-const NONE: u32 = 65535;
-
 // What a cell's bit says of it.
 #[derive(Clone, Copy)]
 pub enum Cell {
@@ -56,14 +54,6 @@ impl Run {
         let w = (self.start / 64) as usize;
         is_free_word(map, w, self.low_mask()) && is_free_word(map, w + 1, self.high_mask())
     }
-}
-
-// A run put by its numbers.
-pub fn put_run(map: &mut [u64; 16], c: u32, n: u32, to: Cell)
-    requires { n < 64 }
-    ensures { map.new ≡ put_run map.old c n (bit_of to) }
-{
-    Run { start: c, cells: n }.put(map, to);
 }
 
 // The word with the mask's ones put.
@@ -143,11 +133,4 @@ pub fn find_run(map: &[u64; 16], n: u32) -> Option<u32>
         c = end + 1;
     }
     None
-}
-
-// The same with 65535 for none.
-pub fn lowest_run(map: [u64; 16], n: u32) -> u32
-    ensures { result ≡ lowest_run map n }
-{
-    find_run(&map, n).unwrap_or(NONE)
 }

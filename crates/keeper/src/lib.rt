@@ -10,7 +10,7 @@ ghost use Rattle.answers.specs.Answers.{refused_by};
 ghost use Rattle.keeper.specs.Kept.{settled, record_refusals, new_refusals, retire_step, begin_step, admit_step, admit_arena};
 
 use answers::refuse_if;
-use cells::Cell;
+use cells::{Cell, Run};
 use directory::{ABSENT, find, set_entry};
 use model::{Answer, Control, Move, Put, Reason, Stage};
 use mover::{Kept, stay};
@@ -75,7 +75,11 @@ pub fn begin(mut control: Control, arena: &[u32], meter: u32) -> Result<Kept<Con
         .filter(|target| *target < cell)
         .ok_or(Reason::NoneBelow)?;
     control.begun = control.begun.checked_add(1).ok_or(Reason::Spent)?;
-    cells::put_run(&mut control.map, target, length, Cell::Used);
+    let block = Run {
+        start: target,
+        cells: length,
+    };
+    block.put(&mut control.map, Cell::Used);
     control.mv = first_move(meter, from, target as u16);
     Ok(Kept {
         next: control,
@@ -112,7 +116,11 @@ pub fn admit(
     let length = record::lengths_of(kind).cells;
     let cell = cells::find_run(&control.map, length).ok_or(Reason::Full)?;
     record::lay_record(arena, cell as u16, meter as u8, kind as u8);
-    cells::put_run(&mut control.map, cell, length, Cell::Used);
+    let block = Run {
+        start: cell,
+        cells: length,
+    };
+    block.put(&mut control.map, Cell::Used);
     set_entry(&mut control.dir, meter, cell as u16);
     Ok(stay(control, Answer::Admitted(cell)))
 }

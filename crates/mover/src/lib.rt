@@ -9,7 +9,7 @@ ghost use Rattle.model.specs.KeeperSteps.{replica_word};
 ghost use Rattle.mover.specs.Kept.{stays, open_first, copy_move, advance_move, commit_kept, end_move, call_off_kept};
 ghost use Rattle.mover.specs.Kept.{settle_kept, give_back_kept, closing, close_kept};
 
-use cells::Cell;
+use cells::{Cell, Run};
 use directory::set_entry;
 use model::{Answer, Control, Move, Put, Reason, Stage};
 use record::Header;
@@ -127,8 +127,11 @@ fn commit(mut control: Control) -> Kept<Control>
 pub fn free_block(map: &mut [u64; 16], arena: &[u32], from: u16, cell: u16)
     ensures { map.new ≡ put_run map.old cell (cells_at arena.now from) 0 }
 {
-    let lengths = record::lengths_at(arena, from as u32);
-    cells::put_run(map, cell as u32, lengths.cells, Cell::Free);
+    let block = Run {
+        start: cell as u32,
+        cells: record::lengths_at(arena, from as u32).cells,
+    };
+    block.put(map, Cell::Free);
 }
 
 // The block at a cell is freed, as long as the moved record; "no move in hand".
