@@ -39,7 +39,7 @@ fn refusal(control: Control, arena: &[u32], table: &[u32]) -> u32
     if !right_sizes(arena, table) {
         return 1;
     }
-    if rules::first_broken(control, arena, table) != 0 {
+    if rules::first_broken(&control, arena, table).is_some() {
         return 2;
     }
     0
@@ -198,6 +198,6 @@ pub fn audit(control: Control, arena: &[u32], table: &[u32]) -> Reply
     }
     Reply {
         control,
-        answer: Answer::Done(rules::first_broken(control, arena, table)),
+        answer: Answer::Done(rules::first_broken(&control, arena, table).map_or(0, u32::from)),
     }
 }

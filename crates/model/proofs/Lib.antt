@@ -21,3 +21,4 @@ pub mod Headers
 pub mod Sizes
 pub mod Holds
 pub mod StageNumbers
+pub mod Lists

@@ -1,3 +1,4 @@
-pub mod Ways
 pub mod Present
+pub mod Owed
 pub mod Rows
+pub mod Holds

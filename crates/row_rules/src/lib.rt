@@ -2,201 +2,150 @@
 // R6 is asked where R1 holds: a present record is then found by its label. Changes nothing.
 #![tactic(auto)]
 
-ghost use Rattle.std.specs.Prelude.{◌≡◌, true, ◌≤◌, eqb, length};
+ghost use Rattle.std.specs.Prelude.{◌≡◌, true, false, ◌≤◌, eqb, MatchOption};
 ghost use Rattle.model.specs.Choice.{all, any};
 ghost use Rattle.model.specs.Arena.{none};
-ghost use Rattle.model.specs.Rules.{R1, detached_right, hold_right, passed_right, row_right, R6, flag_up, swaps_right, R8};
+ghost use Rattle.model.specs.Rules.{detached_right, hold_right, access_right, phase_right, passed_right, row_right, R1, R6};
+ghost use Rattle.model.specs.Rules.{flag_up, swaps_right, R8};
 ghost use Rattle.model.proofs.Readings.{owed};
 ghost use Rattle.table.specs.Words.{rows_of};
-ghost use Rattle.row_rules.specs.Tests.{access_at, ready_at, phase_at};
 
 use blocks::{is_early, is_late};
-use model::{Move, Phase, Row};
+use model::{Access, Control, Move, Phase, Row};
+use record::{Header, lengths_at, read_header, read_label};
 use row::{hold_number, hold_of, is_among, is_busy, word_number};
 
 // "empty (65535)"
 const NONE: u32 = 65535;
 
-const HOLDS: u32 = 4;
-
 const ROWS: u32 = 8;
 
 const TABLE_WORDS: usize = 96;
 
-// "a present record": after R1 its label names the only entry that can be this cell.
-fn is_present(dir: &[u16; 256], arena: &[u32], c: u32) -> bool
-    requires { (length dir.now ≡ 256) × (R1 dir.now arena.now ≡ true) × (c ≡ 65535 → ⊥) }
-    ensures { result ≡ any (eqb c) dir.now }
-{
-    let l = record::unpack_label(record::label_at(arena, c));
-    directory::entry_of(dir, l.meter) as u32 == c
+// Control record and arena of which R1 holds: each present record is labelled with its meter.
+#[derive(Clone, Copy)]
+pub struct Records<'a> {
+    control: &'a Control,
+    arena: &'a [u32],
+    ghost right: { R1 control.now.dir arena.now ≡ true },
 }
 
-// R6 "A hold is empty, a present record, or the old block."
-fn hold_right(dir: &[u16; 256], mv: Move, arena: &[u32], h: u32) -> bool
-    requires { (length dir.now ≡ 256) × (R1 dir.now arena.now ≡ true) }
-    ensures { result ≡ hold_right dir.now mv h }
-{
-    if h == NONE {
-        return true;
-    }
-    if is_present(dir, arena, h) {
-        return true;
-    }
-    if !is_late(mv.stage) {
-        return false;
-    }
-    h == mv.from as u32
-}
-
-fn holds_right(dir: &[u16; 256], mv: Move, arena: &[u32], holds: [u32; 4]) -> bool
-    requires { (length dir.now ≡ 256) × (R1 dir.now arena.now ≡ true) }
-    ensures { result ≡ all (hold_right dir.now mv) holds }
-{
-    let mut i: u32 = 0;
-    while i < HOLDS {
-        if !hold_right(dir, mv, arena, hold_of(holds, i)) {
-            return false;
+impl<'a> Records<'a> {
+    // R1, asked.
+    pub fn found(control: &'a Control, arena: &'a [u32]) -> Option<Self>
+        ensures { MatchOption result (R1 control.now.dir arena.now ≡ false)
+            (λ r. (R1 control.now.dir arena.now ≡ true) × (r.control.now ≡ control.now)
+            × (r.arena.now ≡ arena.now)) }
+    {
+        if record_rules::records_right(control, arena) {
+            Some(Records { control, arena })
+        } else {
+            None
         }
-        i += 1;
     }
-    true
+
+    // "a present record": after R1 its label names the only entry that can be this cell.
+    fn is_present(self, c: u32) -> bool
+        requires { c ≡ 65535 → ⊥ }
+        ensures { result ≡ any (eqb c) self.entry.control.now.dir }
+    {
+        let label = read_label(self.arena, c);
+        let entry = self.control.dir.get(label.meter as usize);
+        entry.is_some_and(|&cell| cell as u32 == c)
+    }
+
+    // R6 "A hold is empty, a present record, or the old block."
+    #[tactic(auto, unfolding(model::specs::Rules::hold_right))]
+    fn hold_right(self, h: u32) -> bool
+        ensures { result ≡ hold_right self.entry.control.now.dir self.entry.control.now.mv h }
+    {
+        let mv = &self.control.mv;
+        h == NONE || self.is_present(h) || (is_late(mv.stage) && h == mv.from as u32)
+    }
+
+    fn holds_right(self, holds: [u32; 4]) -> bool
+        ensures { result ≡ all (hold_right self.entry.control.now.dir self.entry.control.now.mv)
+            holds }
+    {
+        holds.iter().all(|&h| self.hold_right(h))
+    }
+
+    #[tactic(auto, unfolding(model::specs::Rules::row_right))]
+    fn row_right(self, row: Row) -> bool
+        ensures { result ≡ row_right self.entry.control.now.dir self.entry.control.now.mv
+            self.entry.arena.now row }
+    {
+        detached_right(row)
+            && self.holds_right(row.holds)
+            && phase_right(self.arena, row)
+            && passed_right(&self.control.mv, row)
+    }
+
+    // R6, on every row of the table.
+    pub fn rows_right(self, table: &[u32]) -> bool
+        ensures { result ≡ R6 self.entry.control.now.dir self.entry.control.now.mv
+            self.entry.arena.now (rows_of table.now) }
+    {
+        if table.len() != TABLE_WORDS {
+            return true;
+        }
+        (0..ROWS).all(|i| self.row_right(table::checked_row_at(table, i)))
+    }
+}
+
+// "Unattached rows are as after DETACH."
+#[tactic(auto, unfolding(model::specs::Rules::detached_right))]
+fn detached_right(row: Row) -> bool
+    ensures { result ≡ detached_right row }
+{
+    row.attached || (row.passed && all_empty(row.holds) && !is_busy(row.phase))
 }
 
 fn all_empty(holds: [u32; 4]) -> bool
     ensures { result ≡ all (eqb none) holds }
 {
-    let mut i: u32 = 0;
-    while i < HOLDS {
-        if NONE != hold_of(holds, i) {
-            return false;
-        }
-        i += 1;
-    }
-    true
+    holds == [NONE; 4]
 }
 
-// "Unattached rows are as after DETACH."
-fn detached_right(row: Row) -> bool
-    ensures { result ≡ detached_right row }
+// "A busy row's hold is filled, its word within the payload"
+#[tactic(auto, unfolding(model::specs::Rules::access_right))]
+fn access_right(arena: &[u32], row: Row, x: Access) -> bool
+    ensures { result ≡ access_right arena.now row x }
 {
-    if row.attached {
-        return true;
-    }
-    if !row.passed {
-        return false;
-    }
-    let holds = row.holds;
-    let phase = row.phase;
-    if !all_empty(holds) {
-        return false;
-    }
-    !is_busy(phase)
+    let h = hold_of(row.holds, hold_number(x));
+    h != NONE && word_number(x) < lengths_at(arena, h).payload
 }
 
-// "A busy row's hold is filled, its word within the payload": h is the cell that the access's hold has.
-fn access_right(arena: &[u32], h: u32, word: u32) -> bool
-    ensures { result ≡ access_at arena.now h word }
+// "waiting is on its hold's cell; ready is at its hold's cell or that header's target"
+fn phase_right(arena: &[u32], row: Row) -> bool
+    ensures { result ≡ phase_right arena.now row row.phase }
 {
-    if h == NONE {
-        return false;
-    }
-    let n = record::lengths_at(arena, h);
-    word < n.payload
-}
-
-// "ready is at its hold's cell or that header's target"
-fn ready_right(arena: &[u32], h: u32, c: u32) -> bool
-    ensures { result ≡ ready_at arena.now h c }
-{
-    if c == h {
-        return true;
-    }
-    let x = record::unpack(record::header_at(arena, h));
-    c == x.target
-}
-
-fn phase_right(arena: &[u32], holds: [u32; 4], phase: Phase) -> bool
-    ensures { result ≡ phase_at arena.now holds phase }
-{
-    match phase {
+    match row.phase {
         Phase::Resting => true,
         Phase::Ready(c, x) => {
-            let h = hold_of(holds, hold_number(x));
-            if !access_right(arena, h, word_number(x)) {
-                return false;
-            }
-            ready_right(arena, h, c)
+            let h = hold_of(row.holds, hold_number(x));
+            access_right(arena, row, x) && (c == h || c == read_header(arena, h).target)
         }
-        Phase::Waiting(c, x) => {
-            let h = hold_of(holds, hold_number(x));
-            if !access_right(arena, h, word_number(x)) {
-                return false;
-            }
-            c == h
-        }
+        Phase::Waiting(c, x) => access_right(arena, row, x)
+            && c == hold_of(row.holds, hold_number(x)),
     }
 }
 
 // "In the third barrier a passed row holds no old block."
-fn passed_right(mv: Move, row: Row) -> bool
-    ensures { result ≡ passed_right mv row }
+#[tactic(auto, unfolding(model::specs::Rules::passed_right))]
+fn passed_right(mv: &Move, row: Row) -> bool
+    ensures { result ≡ passed_right mv.now row }
 {
-    if !is_late(mv.stage) {
-        return true;
-    }
-    if !row.passed {
-        return true;
-    }
-    let holds = row.holds;
-    !is_among(holds, mv.from as u32)
-}
-
-fn row_right(dir: &[u16; 256], mv: Move, arena: &[u32], row: Row) -> bool
-    requires { (length dir.now ≡ 256) × (R1 dir.now arena.now ≡ true) }
-    ensures { result ≡ row_right dir.now mv arena.now row }
-{
-    let holds = row.holds;
-    let phase = row.phase;
-    if !detached_right(row) {
-        return false;
-    }
-    if !holds_right(dir, mv, arena, holds) {
-        return false;
-    }
-    if !phase_right(arena, holds, phase) {
-        return false;
-    }
-    passed_right(mv, row)
-}
-
-// R6, on every row of the table.
-pub fn rows_right(dir: &[u16; 256], mv: Move, arena: &[u32], table: &[u32]) -> bool
-    requires { (length dir.now ≡ 256) × (R1 dir.now arena.now ≡ true) }
-    ensures { result ≡ R6 dir.now mv arena.now (rows_of table.now) }
-{
-    if table.len() != TABLE_WORDS {
-        return true;
-    }
-    let mut i: u32 = 0;
-    while i < ROWS {
-        if !row_right(dir, mv, arena, table::checked_row_at(table, i)) {
-            return false;
-        }
-        i += 1;
-    }
-    true
+    !is_late(mv.stage) || !row.passed || !is_among(row.holds, mv.from as u32)
 }
 
 // "While a header is flagged": after R4 it can only be the moved record's.
-fn flag_up(mv: Move, arena: &[u32]) -> bool
-    ensures { result ≡ flag_up mv arena.now }
+#[tactic(auto, unfolding(model::specs::Rules::flag_up))]
+fn flag_up(mv: &Move, arena: &[u32]) -> bool
+    ensures { result ≡ flag_up mv.now arena.now }
 {
-    if !is_early(mv.stage) {
-        return false;
-    }
     let from = mv.from as u32;
-    record::is_flagged(record::header_at(arena, from), from)
+    is_early(mv.stage) && read_header(arena, from) == Header::flagged(from)
 }
 
 // By how much a row's swaps must stay below begun.
@@ -204,13 +153,8 @@ fn owed_by(flag: bool, from: u32, phase: Phase) -> u64
     ensures { (result ≡ owed flag from phase) × (result ≤ 2) }
 {
     match phase {
-        Phase::Resting => if flag { 1 } else { 0 },
-        Phase::Ready(_, _) => if flag { 1 } else { 0 },
-        Phase::Waiting(c, _) => if flag {
-            if c == from { 1 } else { 2 }
-        } else {
-            1
-        },
+        Phase::Resting | Phase::Ready(_, _) => flag as u64,
+        Phase::Waiting(c, _) => if flag && c != from { 2 } else { 1 },
     }
 }
 
@@ -219,25 +163,17 @@ fn owed_by(flag: bool, from: u32, phase: Phase) -> u64
 fn swaps_right(flag: bool, from: u32, begun: u32, row: Row) -> bool
     ensures { result ≡ swaps_right flag from begun row }
 {
-    let phase = row.phase;
-    (row.swaps as u64) + owed_by(flag, from, phase) <= begun as u64
+    row.swaps as u64 + owed_by(flag, from, row.phase) <= begun as u64
 }
 
 // R8, on every row of the table.
-pub fn all_swaps_right(mv: Move, begun: u32, arena: &[u32], table: &[u32]) -> bool
-    ensures { result ≡ R8 mv begun arena.now (rows_of table.now) }
+pub fn all_swaps_right(control: &Control, arena: &[u32], table: &[u32]) -> bool
+    ensures { result ≡ R8 control.now.mv control.now.begun arena.now (rows_of table.now) }
 {
+    let flag = flag_up(&control.mv, arena);
+    let from = control.mv.from as u32;
     if table.len() != TABLE_WORDS {
         return true;
     }
-    let flag = flag_up(mv, arena);
-    let from = mv.from as u32;
-    let mut i: u32 = 0;
-    while i < ROWS {
-        if !swaps_right(flag, from, begun, table::checked_row_at(table, i)) {
-            return false;
-        }
-        i += 1;
-    }
-    true
+    (0..ROWS).all(|i| swaps_right(flag, from, control.begun, table::checked_row_at(table, i)))
 }

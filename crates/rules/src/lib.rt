@@ -2,72 +2,63 @@
 // A rule is asked only after those before it. Changes nothing.
 #![tactic(auto)]
 
-ghost use Rattle.std.specs.Prelude.{◌≡◌, length};
+ghost use Rattle.std.specs.Prelude.{◌≡◌};
 ghost use Rattle.model.specs.State.{state};
 ghost use Rattle.model.specs.Rules.{first_broken};
-ghost use Rattle.model.specs.Arena.{IsMap};
 ghost use Rattle.table.specs.Words.{rows_of};
-ghost use Rattle.rules.specs.Lent.{of_parts};
+ghost use Rattle.rules.specs.Broken.{asked, found};
 
-use model::{Control, Move};
-use record_rules::{counts_right, headers_right, move_right, numbers_right, records_right};
-use row_rules::{all_swaps_right, rows_right};
+use blocks::cells_right;
+use model::Control;
+use record_rules::{counts_right, headers_right, move_right, numbers_right};
+use row_rules::{Records, all_swaps_right};
 
-// "0 or the number of the first broken rule"; directory and map are lent, for no rule copies them.
-fn broken<'a>(
-    dir: &'a [u16; 256],
-    map: &'a [u64; 16],
-    mv: Move,
-    begun: u32,
-    committed: u32,
-    aborted: u32,
-    arena: &[u32],
-    table: &[u32],
-) -> u32
-    requires { (length dir.now ≡ 256) × IsMap map.now }
-    ensures { result ≡ first_broken
-        (of_parts dir.now map.now mv begun committed aborted arena.now table.now) }
+// The rules of "A sound state", by number.
+#[derive(Clone, Copy, PartialEq, Eq)]
+pub enum Rule {
+    R1 = 1,
+    R2 = 2,
+    R3 = 3,
+    R4 = 4,
+    R5 = 5,
+    R6 = 6,
+    R7 = 7,
+    R8 = 8,
+}
+
+impl From<Rule> for u32 {
+    ghost use Rattle.std.specs.Prelude.{◌≡◌};
+    ghost use Rattle.rules.specs.Broken.{rule_number};
+
+    ghost from_gives = { λ rule n. n ≡ rule_number rule };
+
+    fn from(rule: Rule) -> u32 {
+        rule as u32
+    }
+}
+
+// Each rule in turn, up to the first that is broken.
+#[tactic(auto, unfolding(model::specs::Rules::first_broken))]
+fn ask_all(control: &Control, arena: &[u32], table: &[u32]) -> Result<(), Rule>
+    ensures { asked result ≡ first_broken (state control.now arena.now (rows_of table.now)) }
 {
-    if !records_right(dir, arena) {
-        return 1;
-    }
-    if !move_right(dir, mv, arena) {
-        return 2;
-    }
-    if !blocks::cells_right(dir, map, mv, arena) {
-        return 3;
-    }
-    if !headers_right(dir, mv, arena) {
-        return 4;
-    }
-    if !numbers_right(mv, arena) {
-        return 5;
-    }
-    if !rows_right(dir, mv, arena, table) {
-        return 6;
-    }
-    if !counts_right(mv, begun, committed, aborted) {
-        return 7;
-    }
-    if !all_swaps_right(mv, begun, arena, table) {
-        return 8;
-    }
-    0
+    let records = Records::found(control, arena).ok_or(Rule::R1)?;
+    move_right(control, arena).then_some(()).ok_or(Rule::R2)?;
+    cells_right(&control.dir, &control.map, control.mv, arena)
+        .then_some(())
+        .ok_or(Rule::R3)?;
+    headers_right(control, arena).then_some(()).ok_or(Rule::R4)?;
+    numbers_right(control, arena).then_some(()).ok_or(Rule::R5)?;
+    records.rows_right(table).then_some(()).ok_or(Rule::R6)?;
+    counts_right(control).then_some(()).ok_or(Rule::R7)?;
+    all_swaps_right(control, arena, table)
+        .then_some(())
+        .ok_or(Rule::R8)
 }
 
 // "Audit's value, beside answer 30, is 0 or the number of the first broken rule."
-pub fn first_broken(control: Control, arena: &[u32], table: &[u32]) -> u32
-    ensures { result ≡ first_broken (state control arena.now (rows_of table.now)) }
+pub fn first_broken(control: &Control, arena: &[u32], table: &[u32]) -> Option<Rule>
+    ensures { found result ≡ first_broken (state control.now arena.now (rows_of table.now)) }
 {
-    let mv = control.mv;
-    broken(
-        &control.dir,
-        &control.map,
-        mv,
-        control.begun,
-        control.committed,
-        control.aborted,
-        arena,
-        table,
-    )
+    ask_all(control, arena, table).err()
 }

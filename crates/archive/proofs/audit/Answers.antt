@@ -1,5 +1,6 @@
 -- `archive::audit` meets its contract: refused by its size, or the first broken rule (proofs/Calls).
-use Rattle.std.proofs.Common.{sym, ◌∙◌}
+use Rattle.std.proofs.Common.{◌≡◌, sym, ◌∙◌, rules}
+use Rattle.rules.specs.Broken.{found}
 use Rattle.archive.proofs.Calls.{audit_stays, audit_goes}
 use Rattle.archive.proofs.audit.Goals as goal
 
@@ -11,5 +12,6 @@ returns-then-not-right_sizes c =
 pub returns : goal.returns
 returns c =
     let s = c.args in
+    let told : c.map_or.result ≡ found c.first_broken.result = search rules in
     audit_goes s.control s.arena.now s.table.now _ (sym c.right_sizes.ensures ∙ c.if-not-right_sizes.false)
-    c.first_broken.ensures
+    (told ∙ c.first_broken.ensures)
