@@ -9,12 +9,9 @@ ghost use Rattle.model.specs.Rules.{replica_right, early_right, late_right, head
 ghost use Rattle.record_rules.specs.Entries.{record_at, header_at};
 
 use blocks::{is_early, is_late};
-use directory::entry_of;
+use directory::{ABSENT, find};
 use model::{Control, Move, Stage};
 use record::{Header, lengths_at, lengths_of, read_header, read_label};
-
-// "absent (65535)"
-const ABSENT: u16 = 65535;
 
 // The n cells from c on lie "within 1,024 cells".
 fn fits(c: u16, n: u32) -> bool
@@ -63,9 +60,7 @@ fn early_right(control: &Control, arena: &[u32]) -> bool
     ensures { result ≡ early_right control.now.dir control.now.mv arena.now }
 {
     let mv = &control.mv;
-    let cell = entry_of(&control.dir, mv.meter);
-    cell != ABSENT
-        && cell == mv.from
+    find(&control.dir, mv.meter) == Some(mv.from)
         && fits(mv.target, lengths_at(arena, mv.from as u32).cells)
         && replica_right(mv, arena)
 }
@@ -76,10 +71,8 @@ fn late_right(control: &Control, arena: &[u32]) -> bool
     ensures { result ≡ late_right control.now.dir control.now.mv arena.now }
 {
     let mv = &control.mv;
-    let cell = entry_of(&control.dir, mv.meter);
     let label = read_label(arena, mv.from as u32);
-    cell != ABSENT
-        && cell == mv.target
+    find(&control.dir, mv.meter) == Some(mv.target)
         && label == read_label(arena, mv.target as u32)
         && fits(mv.from, lengths_of(label.kind).cells)
 }
