@@ -86,6 +86,7 @@ impl<'a> Model for Archive<'a> {
 }
 
 impl<'a> Archive<'a> {
+    // Fresh, whatever the memory held.
     fn fresh(arena: &'a mut [u32; 8192], table: &'a mut [u32; 96]) -> Archive<'a>
         ensures { result ≡ fresh }
     {

@@ -5,9 +5,9 @@
 pub mod printing;
 pub mod reading;
 
-const SPACE: u8 = 32;
+const SPACE: u8 = b' ';
 
-const LF: u8 = 10;
+const LF: u8 = b'\n';
 
 // What digits write, if it is at most 4294967295, and how many they are.
 #[derive(Clone, Copy)]

@@ -42,7 +42,7 @@ impl<'a> Page<'a> {
         }
     }
 
-    // A number in decimal, no needless leading zero.
+    // A number in decimal, no needless leading zero. Not by `write!`, whose result each caller would drop: a page refuses nothing.
     fn put_number(&mut self, n: u64)
         ensures { Writes self.old self.new (decimal n) }
     {

@@ -1,4 +1,5 @@
 // Reading: the text to a script, or to the number of its first wrong line.
+// Text and place are two parameters, so each contract is one equation; a cursor's would say too what is read, and that the text stays.
 ghost use Rattle.std.specs.Prelude.{◌≡◌, true, ◌+◌, ◌≤◌, ◌<◌, length, get_or};
 ghost use Rattle.std.proofs.lemmas.List.Edits.{sets};
 ghost use Rattle.script.specs.Numbers.{is_digit, more, scanned, plain, number_at};
@@ -96,6 +97,7 @@ fn lines(s: &[u8], count: u32, spaces: u32, first: usize, at: usize) -> Result<u
 }
 
 // "Two sections, each after its count"
+#[tactic(auto, unfolding(crate::specs::Lines::section_at))]
 fn section(s: &[u8], spaces: u32, first: usize, at: usize) -> Result<Section, BadFile>
     requires { first ≤ 8589934591 }
     ensures { result ≡ section_at s.now spaces first at }
@@ -109,6 +111,7 @@ fn section(s: &[u8], spaces: u32, first: usize, at: usize) -> Result<Section, Ba
 }
 
 // The whole text: a script, or its first line that is wrong, missing or extra.
+#[tactic(auto, unfolding(crate::specs::Lines::parse))]
 pub fn parse(s: &[u8]) -> Result<Script, BadFile>
     ensures { result ≡ parse s.now }
 {

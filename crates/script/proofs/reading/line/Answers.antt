@@ -4,9 +4,6 @@ use Rattle.std.proofs.lemmas.Grind.{common_steps}
 use Rattle.script.proofs.Lines.{one_left, line_ends, line_goes_on, line_breaks}
 use Rattle.script.proofs.reading.line.Goals as goal
 
-pub loop-init : goal.loop-init
-loop-init c = grind arith
-
 pub returns-in_err-place : goal.returns-in_err-place
 returns-in_err-place c = grind (arith, common_steps, one_left, line_breaks)
 
