@@ -1,8 +1,8 @@
 -- The tests before a call, on words, are the model's on the rows that the words mean; a state that passes them is lent as the words of
 -- its eight rows.
 use mathlib.Core.Path.{◌≡◌, refl, sym, ◌∙◌}
-use mathlib.Core.Logic.{◌≢◌, ⊎_elim}
-use mathlib.Core.Bool.{true, false, not}
+use mathlib.Core.Logic.{⊎_elim}
+use mathlib.Core.Bool.{true, not}
 use mathlib.Core.List.{List}
 use Prim.Native.Nat.{ℕ}
 use lib.Dec.{eqb}
@@ -34,16 +34,9 @@ module _ (c : Control) (a t : List ℕ) where
   unfolding wrong_size right_sizes
   size_test = rw (eight_rows t)
 
-  pub size_refused : right_sizes a t ≡ false → given (call_refusals (meant c a t)) ≡ 1
-  size_refused e = rw (size_test, e)
-
-  pub unsound_refused : right_sizes a t ≡ true → first_broken (meant c a t) ≢ 0 → given (call_refusals (meant c a t)) ≡ 2
+  pub unsound_test : unsound (meant c a t) ≡ not (eqb (first_broken (meant c a t)) 0)
   unfolding unsound
-  unsound_refused e n = rw (size_test, e, ne_eqb (first_broken (meant c a t)) 0 n)
-
-  pub none_refused : right_sizes a t ≡ true → first_broken (meant c a t) ≡ 0 → given (call_refusals (meant c a t)) ≡ 0
-  unfolding unsound
-  none_refused e f = rw (size_test, e, eq-eqb (first_broken (meant c a t)) 0 f)
+  unsound_test = refl
 
 pub record Passes (c : Control) (a t : List ℕ) : Type 0 where
   pub rows : Rows (meant c a t)

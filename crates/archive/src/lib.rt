@@ -2,12 +2,15 @@
 // Sizes first, then soundness, once a call; a refused call changes nothing.
 #![tactic(auto)]
 
-ghost use Rattle.std.specs.Prelude.{◌≡◌, length, replicate};
+ghost use Rattle.std.specs.Prelude.{◌≡◌, not};
 ghost use Rattle.model.specs.Choice.{given};
-ghost use Rattle.model.specs.Steps.{step, call_refusals, fresh_call, step_call, run_call, fill_call, audit_call, run_sizes};
+ghost use Rattle.model.specs.declared.Reason.TheVariants.{WrongSizes};
+ghost use Rattle.model.specs.Steps.{step, call_refusals, run_refusals, fresh_call, step_call, run_call, fill_call, audit_call, run_sizes};
+ghost use Rattle.answers.specs.Answers.{refused_if, refused_by};
 ghost use Rattle.archive.specs.Does.{meant, CallDoes, RunDoes, LookDoes, right_sizes};
 
-use model::{Answer, Control, Move};
+use answers::refuse_if;
+use model::{Answer, Control, Move, Reason};
 
 // "answer a number and a value too"
 #[derive(Clone, Copy)]
@@ -25,74 +28,52 @@ const TABLE: usize = 96;
 // "each absent (65535)"
 const NONE: u16 = 65535;
 
-// 1 "arena is not 8,192 words, or table not eight rows"
-fn right_sizes(arena: &[u32], table: &[u32]) -> bool
-    ensures { result ≡ right_sizes arena.now table.now }
+// "arena is not 8,192 words, or table not eight rows"
+#[tactic(auto, unfolding(crate::specs::Does::right_sizes))]
+fn sized(arena: &[u32], table: &[u32]) -> Result<(), Reason>
+    ensures { result ≡ refused_if (not (right_sizes arena.now table.now)) WrongSizes }
 {
-    arena.len() == WORDS && table.len() == TABLE
+    let right = arena.len() == WORDS && table.len() == TABLE;
+    refuse_if(!right, Reason::WrongSizes)
 }
 
-// 1 or 2, the lower that applies; else 0.
-fn refusal(control: Control, arena: &[u32], table: &[u32]) -> u32
-    ensures { result ≡ given (call_refusals (meant control arena.now table.now)) }
+// 1 or 2, the lower that applies.
+#[tactic(auto, using(crate::proofs::Tests::size_test, crate::proofs::Tests::unsound_test))]
+fn refusal(control: Control, arena: &[u32], table: &[u32]) -> Result<(), Reason>
+    ensures { refused_by result ≡ given (call_refusals (meant control arena.now table.now)) }
 {
-    if !right_sizes(arena, table) {
-        return 1;
-    }
-    if rules::first_broken(&control, arena, table).is_some() {
-        return 2;
-    }
-    0
-}
-
-// "Fresh zeroes the arena"
-fn zero(arena: &mut [u32])
-    ensures { arena.new ≡ replicate (length arena.old) 0 }
-{
-    let mut i = 0;
-    while i < arena.len() {
-        arena[i] = 0;
-        i += 1;
-    }
+    sized(arena, table)?;
+    let broken = rules::first_broken(&control, arena, table).is_some();
+    refuse_if(broken, Reason::Unsound)
 }
 
 // "A fresh directory has all 256 meters absent."
-pub fn fresh(control: Control, arena: &mut [u32], table: &mut [u32]) -> Reply
+pub fn fresh(mut control: Control, arena: &mut [u32], table: &mut [u32]) -> Reply
     ensures { CallDoes table.old result arena.new table.new
         (fresh_call (meant control arena.old table.old)) }
 {
-    if !right_sizes(arena, table) {
-        return Reply {
-            control,
-            answer: Answer::Refused(1),
-        };
-    }
-    zero(arena);
-    table::fresh_rows(table);
-    let mv = Move {
-        stage: 0,
-        meter: 0,
-        from: 0,
-        target: 0,
-        copied: 0,
+    let answer = match sized(arena, table) {
+        Ok(()) => {
+            arena.fill(0);
+            table::fresh_rows(table);
+            control = Control {
+                dir: [NONE; 256],
+                map: [0; 16],
+                mv: Move::default(),
+                begun: 0,
+                committed: 0,
+                aborted: 0,
+            };
+            Answer::Done(0)
+        }
+        Err(reason) => Answer::from(reason),
     };
-    let next = Control {
-        dir: [NONE; 256],
-        map: [0; 16],
-        mv,
-        begun: 0,
-        committed: 0,
-        aborted: 0,
-    };
-    Reply {
-        control: next,
-        answer: Answer::Done(0),
-    }
+    Reply { control, answer }
 }
 
 // One step: a run of one.
 pub fn step(
-    control: Control,
+    mut control: Control,
     arena: &mut [u32],
     table: &mut [u32],
     who: u32,
@@ -104,42 +85,42 @@ pub fn step(
     ensures { CallDoes table.old result arena.new table.new
         (step_call (meant control arena.old table.old) (step who code a b v)) }
 {
-    let n = refusal(control, arena, table);
-    if 0 < n {
-        return Reply {
-            control,
-            answer: Answer::Refused(n),
-        };
-    }
     let steps = [who, code, a, b, v];
     let mut slot = [0; 2];
-    let o = turns::turns(control, arena, table, &steps, &mut slot);
-    let next = o.control;
-    let answer = o.answer;
-    Reply {
-        control: next,
-        answer,
-    }
+    let answer = match refusal(control, arena, table) {
+        Ok(()) => turns::turns(&mut control, arena, table, &steps, &mut slot),
+        Err(reason) => Answer::from(reason),
+    };
+    Reply { control, answer }
 }
 
 // "five words each, with a two-word answer slot for each"
+#[tactic(auto, unfolding(model::specs::Steps::run_sizes))]
 fn run_sizes(steps: &[u32], answers: &[u32]) -> bool
     ensures { result ≡ run_sizes steps.now answers.now }
 {
     let n = steps.len();
-    if 20480 < n {
-        return false;
-    }
-    if n % 5 != 0 {
-        return false;
-    }
-    answers.len() == 2 * (n / 5)
+    n <= 20480 && n % 5 == 0 && answers.len() == 2 * (n / 5)
+}
+
+// 1 or 2, the lower that applies to a run.
+fn run_refusal(
+    control: Control,
+    arena: &[u32],
+    table: &[u32],
+    steps: &[u32],
+    answers: &[u32],
+) -> Result<(), Reason>
+    ensures { refused_by result ≡ given (run_refusals (meant control arena.now table.now) steps.now answers.now) }
+{
+    refuse_if(!run_sizes(steps, answers), Reason::WrongSizes)?;
+    refusal(control, arena, table)
 }
 
 // "A run of up to 4,096 steps .. checks soundness once and equals the steps one by one. 1 or 2 refuses the whole run and writes no
 // answers; a refused step inside it only fills its own slot."
 pub fn run(
-    control: Control,
+    mut control: Control,
     arena: &mut [u32],
     table: &mut [u32],
     steps: &[u32],
@@ -148,56 +129,34 @@ pub fn run(
     ensures { RunDoes table.old result arena.new table.new answers.new
         (run_call (meant control arena.old table.old) steps.now answers.old) }
 {
-    if !run_sizes(steps, answers) {
-        return Reply {
-            control,
-            answer: Answer::Refused(1),
-        };
-    }
-    let m = refusal(control, arena, table);
-    if 0 < m {
-        return Reply {
-            control,
-            answer: Answer::Refused(m),
-        };
-    }
-    let o = turns::turns(control, arena, table, steps, answers);
-    let next = o.control;
-    Reply {
-        control: next,
-        answer: Answer::Done(0),
-    }
+    let answer = match run_refusal(control, arena, table, steps, answers) {
+        Ok(()) => {
+            turns::turns(&mut control, arena, table, steps, answers);
+            Answer::Done(0)
+        }
+        Err(reason) => Answer::from(reason),
+    };
+    Reply { control, answer }
 }
 
 // "Fill is the number of used cells"
 pub fn fill(control: Control, arena: &[u32], table: &[u32]) -> Reply
     ensures { LookDoes result (fill_call (meant control arena.now table.now)) }
 {
-    let k = refusal(control, arena, table);
-    if 0 < k {
-        return Reply {
-            control,
-            answer: Answer::Refused(k),
-        };
-    }
-    Reply {
-        control,
-        answer: Answer::Done(cells::fill(&control.map)),
-    }
+    let answer = match refusal(control, arena, table) {
+        Ok(()) => Answer::Done(cells::fill(&control.map)),
+        Err(reason) => Answer::from(reason),
+    };
+    Reply { control, answer }
 }
 
 // "Audit's value, beside answer 30, is 0 or the number of the first broken rule."
 pub fn audit(control: Control, arena: &[u32], table: &[u32]) -> Reply
     ensures { LookDoes result (audit_call (meant control arena.now table.now)) }
 {
-    if !right_sizes(arena, table) {
-        return Reply {
-            control,
-            answer: Answer::Refused(1),
-        };
-    }
-    Reply {
-        control,
-        answer: Answer::Done(rules::first_broken(&control, arena, table).map_or(0, u32::from)),
-    }
+    let answer = match sized(arena, table) {
+        Ok(()) => Answer::Done(rules::first_broken(&control, arena, table).map_or(0, u32::from)),
+        Err(reason) => Answer::from(reason),
+    };
+    Reply { control, answer }
 }

@@ -2,13 +2,13 @@
 -- proofs/Runs joins it to the model's steps one by one, on the words of rows.
 use Rattle.std.specs.Prelude.{Bool, List, ◌≡◌, ℕ, zero, suc, ◌+◌, ◌*◌, ltb, length, set}
 use Rattle.model.specs.declared.Answer.{Answer}
+use Rattle.model.specs.declared.Control.{Control}
 use Rattle.model.specs.Choice.{pick, ◌and◌}
 use Rattle.model.specs.Steps.{Step, step, step_at}
 use Rattle.answers.specs.declared.Told.{Told}
 use Rattle.answers.specs.Answers.{told_as}
 use Rattle.acts.specs.Acts.{Lent, Turn, turn_on}
 use Rattle.turns.specs.declared.Numbers.{Numbers}
-use Rattle.turns.specs.declared.Turned.{Turned}
 
 -- "five words each": the numbers of step i
 abbrev pub numbers_at : List ℕ → ℕ → Numbers
@@ -45,8 +45,9 @@ turns_from ws i (suc n) g =
     pick (has_step (length ws) (length g.slots) i) (turns_from ws (suc i) n (after i g (turn_on g.lent (step_at ws i)))) g
 
 -- What a run does
-pub record RunDoes (a t s : List ℕ) (r : Turned) (g : Going) : Type 0 where
+pub record RunDoes (c : Control) (a t s : List ℕ) (r : Answer) (g : Going) : Type 0 where
+  pub control : c ≡ g.lent.control
   pub arena : a ≡ g.lent.arena
   pub table : t ≡ g.lent.table
   pub slots : s ≡ g.slots
-  pub result : r ≡ record { control = g.lent.control; answer = g.last }
+  pub answer : r ≡ g.last

@@ -24,13 +24,6 @@ pub struct Numbers {
     pub v: u32,
 }
 
-// The control record after a run of steps, and its last answer.
-#[derive(Clone, Copy)]
-pub struct Turned {
-    pub control: Control,
-    pub answer: Answer,
-}
-
 // "five words each"
 impl From<[u32; 5]> for Numbers {
     ghost use Rattle.std.specs.Prelude.{◌≡◌};
@@ -90,24 +83,24 @@ fn put_answer(slots: &mut [u32], i: usize, answer: Answer)
     slots[2 * i + 1] = told.value;
 }
 
-// The steps one by one, each answered in its slot; "a refused step inside it only fills its own slot".
+// The steps one by one, each answered in its slot, and the last answer; "a refused step inside it only fills its own slot".
 pub fn turns(
-    mut control: Control,
+    control: &mut Control,
     arena: &mut [u32],
     table: &mut [u32],
     steps: &[u32],
     slots: &mut [u32],
-) -> Turned
-    ensures { RunDoes arena.new table.new slots.new result
+) -> Answer
+    ensures { RunDoes control.new arena.new table.new slots.new result
         (turns_from steps.now 0 4096
-        (going (lent control arena.old table.old) slots.old (Done 0))) }
+        (going (lent control.old arena.old table.old) slots.old (Done 0))) }
 {
     let mut answer = Answer::Done(0);
     let (steps, _) = steps.as_chunks();
     let n = steps.len().min(slots.len() / 2).min(MOST);
     for (i, step) in steps[..n].iter().enumerate() {
-        answer = turn(&mut control, arena, table, Numbers::from(*step));
+        answer = turn(control, arena, table, Numbers::from(*step));
         put_answer(slots, i, answer);
     }
-    Turned { control, answer }
+    answer
 }

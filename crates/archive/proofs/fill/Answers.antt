@@ -1,15 +1,13 @@
 -- `archive::fill` meets its contract: refused, or the figure (proofs/Calls).
-use Rattle.std.proofs.Common.{◌≡◌, sym, ◌∙◌, arith}
 use Rattle.archive.proofs.Calls.{fill_stays, fill_goes}
 use Rattle.archive.proofs.fill.Goals as goal
 
-pub returns-then-k-gt0 : goal.returns-then-k-gt0
-returns-then-k-gt0 c =
+pub returns-in-Ok : goal.returns-in-Ok
+returns-in-Ok c =
     let s = c.args in
-    fill_stays s.control s.arena.now s.table.now _ c.refusal-k.ensures c.if-k-gt0.true
+    fill_goes s.control s.arena.now s.table.now _ c.in-Ok.ensures c.fill.ensures
 
-pub returns : goal.returns
-returns c =
+pub returns-in-Err : goal.returns-in-Err
+returns-in-Err c =
     let s = c.args in
-    let z : c.refusal-k.result ≡ 0 = omega arith in
-    fill_goes s.control s.arena.now s.table.now _ (sym c.refusal-k.ensures ∙ z) c.fill.ensures
+    rw c.from-answer.ensures (fill_stays s.control s.arena.now s.table.now c.in-Err.reason c.in-Err.ensures)

@@ -25,4 +25,4 @@ returns c =
     let l = c.loop-i in
     let there = length-take c.min-n.result c.as_chunks.result.0.now in
     let e = l.invariant ∙ turns_done c.args.steps.now l.i _ (omega (arith, c.as_chunks.ensures.front_len)) in
-    rw e (record { arena = refl; table = refl; slots = refl; result = refl })
+    rw e (record { control = refl; arena = refl; table = refl; slots = refl; answer = refl })
