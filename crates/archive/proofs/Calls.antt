@@ -27,6 +27,7 @@ use Rattle.model.proofs.Refusals.{none_given, refused_by_given, accepted_by_give
 use Rattle.model.proofs.Calls.{RunSizes, says_run_sizes, steps_length, slots_length, ran_done}
 use Rattle.model.proofs.Answered.{answered}
 use Rattle.answers.specs.Answers.{refused_if}
+use Rattle.answers.proofs.Reasons.{reason_positive}
 use Rattle.table.specs.Words.{table_words, rows_of, each_row, freshen}
 use Rattle.table.proofs.Rows.{fresh_rows}
 use Rattle.acts.specs.Acts.{Lent, lent}
@@ -41,24 +42,20 @@ use Rattle.archive.proofs.Tests.{Passes, passes, size_test}
 abbrev pub reply : Control → Answer → Reply
 reply c x = record { control = c; answer = x }
 
--- every reason has a number
-numbered : (x : Reason) → 0 < reason_number x
-numbered x = grind arith
-
 -- A refused call
 module _ (s : State) (x : Reason) where
   step_refused : (t : Step) → reason_number x ≡ given (call_refusals s) → step_call s t ≡ refused s (reason_number x)
   unfolding step_call
-  step_refused t e = rw e (refused_by_given (call_refusals s) (refused s) (act s t) (rw e at (numbered x)))
+  step_refused t e = rw e (refused_by_given (call_refusals s) (refused s) (act s t) (rw e at (reason_positive x)))
 
   fill_refused : reason_number x ≡ given (call_refusals s) → fill_call s ≡ refused s (reason_number x)
   unfolding fill_call
-  fill_refused e = rw e (refused_by_given (call_refusals s) (refused s) (outcome (Done (fill s.control.map)) s) (rw e at (numbered x)))
+  fill_refused e = rw e (refused_by_given (call_refusals s) (refused s) (outcome (Done (fill s.control.map)) s) (rw e at (reason_positive x)))
 
   run_refused : (ws slots : List ℕ) → reason_number x ≡ given (run_refusals s ws slots) → run_call s ws slots ≡ ran (refusal x) slots s
   unfolding run_call
   run_refused ws slots e =
-      rw e (refused_by_given (run_refusals s ws slots) (λ k. ran (Refused k) slots s) (one_by_one act s (steps_of ws)) (rw e at (numbered x)))
+      rw e (refused_by_given (run_refusals s ws slots) (λ k. ran (Refused k) slots s) (one_by_one act s (steps_of ws)) (rw e at (reason_positive x)))
 
 -- what a refused call leaves: its number is 1 or 2
 unsound_small : (s : State) → pick (unsound s) 2 0 ≤ 2
