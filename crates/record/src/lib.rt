@@ -2,10 +2,10 @@
 // Knows nothing of directory, map, clients or soundness; each function is total.
 #![tactic(auto)]
 
-ghost use Rattle.std.specs.Prelude.{◌≡◌, true, false, eqb, get_or, set, replicate};
-ghost use Rattle.model.specs.Arena.{of_kind, start, place, header, plain, flagged, label, label_of, kind_of, payload_place, new_record, laid};
+ghost use Rattle.std.specs.Prelude.{◌≡◌, true, false, get_or, set, replicate};
+ghost use Rattle.model.specs.Arena.{of_kind, start, place, header, label, label_of, kind_of, payload_place, new_record, laid};
 ghost use Rattle.model.specs.ClientSteps.{changed};
-ghost use Rattle.record.specs.Words.{unpacked, packed, unpacked_label};
+ghost use Rattle.record.specs.Words.{unpacked, unpacked_label};
 
 // "2 × target cell + flag: the lowest bit says that the record is being copied"
 #[derive(Clone, Copy, PartialEq, Eq)]
@@ -103,38 +103,7 @@ const KINDS: [model::Lengths; 4] = [
     },
 ];
 
-pub fn unpack(h: u32) -> Header
-    ensures { result ≡ unpacked h }
-{
-    Header::from(h)
-}
-
-pub fn pack(target: u32, flag: bool) -> u32
-    ensures { result ≡ packed target flag }
-{
-    u32::from(Header { target, flag })
-}
-
-// "2 × cell": the header of a record that is not being copied.
-pub fn is_plain(h: u32, cell: u32) -> bool
-    ensures { result ≡ eqb h (plain cell) }
-{
-    Header::from(h) == Header::plain(cell)
-}
-
-// "2 × cell + 1": of one that is.
-pub fn is_flagged(h: u32, cell: u32) -> bool
-    ensures { result ≡ eqb h (flagged cell) }
-{
-    Header::from(h) == Header::flagged(cell)
-}
-
-pub fn unpack_label(l: u32) -> Label
-    ensures { result ≡ unpacked_label l }
-{
-    Label::from(l)
-}
-
+// Of bytes, which always have room in the word: so no From, which would take any numbers.
 fn pack_label(meter: u8, kind: u8) -> u32
     ensures { result ≡ label_of meter kind }
 {
@@ -191,19 +160,6 @@ pub fn read_label(arena: &[u32], cell: u32) -> Label
     ensures { result ≡ unpacked_label (label arena.now cell) }
 {
     Label::from(load(arena, place(cell, 1)))
-}
-
-pub fn header_at(arena: &[u32], cell: u32) -> u32
-    ensures { result ≡ header arena.now cell }
-{
-    load(arena, place(cell, 0))
-}
-
-// "Word 1 is the label"
-pub fn label_at(arena: &[u32], cell: u32) -> u32
-    ensures { result ≡ label arena.now cell }
-{
-    load(arena, place(cell, 1))
 }
 
 // "kind read from" the label of the record at a cell.
