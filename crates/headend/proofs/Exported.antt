@@ -2,16 +2,14 @@
 use mathlib.Core.Path.{◌≡◌, refl, sym, ap, ◌∙◌}
 use mathlib.Core.Bool.{Bool, true, false}
 use mathlib.Core.List.{List}
-use Prim.Native.Nat.{ℕ, ◌*◌, ◌/◌, ◌%◌, ◌≤◌}
-use lib.Dec.{eqb, leb}
+use Prim.Native.Nat.{ℕ, ◌*◌, ◌/◌, ◌≤◌}
 use lib.ListN.{length, take}
 use lib.Seq.{length-take-le}
-use borrow.Author.Tests.{eq-eqb, ne_eqb, eqb-true, leb-true}
+use borrow.Author.Tests.{eq-eqb, ne_eqb}
 use Rattle.model.specs.declared.Control.{Control}
 use Rattle.model.specs.declared.Answer.{Answer}
 use Rattle.model.specs.declared.Answer.TheVariants.{Refused}
-use Rattle.model.specs.Choice.{pick, ◌and◌}
-use Rattle.model.proofs.Choice.{and_parts}
+use Rattle.model.specs.Choice.{pick}
 use Rattle.model.specs.State.{State, Outcome}
 use Rattle.model.specs.Steps.{Ran}
 use Rattle.table.specs.Words.{table_words}
@@ -22,15 +20,6 @@ use Rattle.buffer.specs.Buffer.{Decoded, state_in, bytes_in, bytes_of}
 use Rattle.buffer.proofs.RoundTrip.{state_decoded}
 use Rattle.headend.specs.Exported.{coded, wrong_buffer, kept, called, exported, run_bytes_fit, run_on, ran_bytes, run_bytes, CallGives}
 use Rattle.headend.specs.Exported.{Finishes, RunGives}
-
-module _ (x : Answer) (before after : List ℕ) where
-  pub kept_refused : is_refused x ≡ true → kept x before after ≡ before
-  unfolding kept
-  kept_refused e = rw e
-
-  pub kept_accepted : is_refused x ≡ false → kept x before after ≡ after
-  unfolding kept
-  kept_accepted e = rw e
 
 module _ (b : List ℕ) (call : State → Outcome) where
   pub wrong_size_lem : (length b ≡ 33820 → ⊥) → CallGives (coded (Refused 1)) b (exported b call)
@@ -95,26 +84,6 @@ module _ (b steps slots : List ℕ) where
       → run_bytes b steps slots ≡ ran_bytes b slots (run_on b steps slots (length steps / 4) (length slots / 4))
   unfolding run_bytes wrong_buffer
   run_right_sizes e f = rw (eq-eqb (length b) 33820 e, f)
-
--- what the sizes of a run say, as `run_fits` has tested them
-pub record RunFit (steps slots : ℕ) : Type 0 where
-  pub fits : run_bytes_fit steps slots ≡ true
-  pub most : steps ≤ 81920
-  pub whole : steps % 20 ≡ 0
-  pub each : slots ≡ 8 * (steps / 20)
-
-pub run_fit : (steps slots : ℕ) {r : Bool} → r ≡ run_bytes_fit steps slots → r ≡ true → RunFit steps slots
-unfolding run_bytes_fit
-run_fit steps slots e f =
-    let fits = sym e ∙ f in
-    let p = and_parts (leb steps 81920) (eqb (steps % 20) 0 and eqb slots (8 * (steps / 20))) fits in
-    let q = and_parts (eqb (steps % 20) 0) (eqb slots (8 * (steps / 20))) p.1 in
-    record {
-      fits = fits;
-      most = leb-true steps 81920 p.0;
-      whole = eqb-true (steps % 20) 0 q.0;
-      each = eqb-true slots (8 * (steps / 20)) q.1;
-    }
 
 -- as many words as the bytes hold
 pub four_times : (x n : ℕ) (l : List ℕ) → n ≤ length l → x ≡ 4 * n → x ≡ 4 * length (take n l)

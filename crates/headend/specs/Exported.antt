@@ -1,5 +1,5 @@
 -- What the exported calls give: the result, every byte of the buffer and, by a run, of the slots. include/tangvrak.h declares them.
-use Rattle.std.specs.Prelude.{Bool, not, List, [], ◌∷◌, ◌≡◌, ℕ, ◌+◌, ◌*◌, ◌/◌, ◌%◌, ◌^◌, eqb, leb, length}
+use Rattle.std.specs.Prelude.{Bool, true, not, List, [], ◌∷◌, ◌≡◌, ℕ, ◌+◌, ◌*◌, ◌/◌, ◌%◌, ◌^◌, ◌≤◌, eqb, leb, length}
 use Rattle.std.specs.Borrow.{Bor, MutBor}
 use Rattle.model.specs.declared.Control.{Control}
 use Rattle.model.specs.declared.Answer.{Answer}
@@ -51,6 +51,13 @@ audit_result b = (exported b audit_call).result
 -- the run: 20 bytes a step, with a slot of 8 bytes for each; "any other sizes are refused by 1"
 unfoldable pub run_bytes_fit : ℕ → ℕ → Bool
 run_bytes_fit steps slots = leb steps 81920 and eqb (steps % 20) 0 and eqb slots (8 * (steps / 20))
+
+-- n steps, as the sizes have it
+pub record RunFit (steps slots n : ℕ) : Type 0 where
+  pub fits : run_bytes_fit steps slots ≡ true
+  pub most : n ≤ 4096
+  pub words : steps ≡ 20 * n
+  pub answers : slots ≡ 8 * n
 
 -- the run on the first n words of the steps and the first m of the slots
 abbrev pub run_on : List ℕ → List ℕ → List ℕ → ℕ → ℕ → Ran

@@ -37,13 +37,14 @@ sum_same : (f g : ℕ → ℕ) (n : ℕ) → ((i : ℕ) → i ≤ n → f i ≡ 
 sum_same f g zero h = h 0 (omega arith)
 sum_same f g (suc n) h = ap₂ (λ (x y : ℕ). x + y) (sum_same f g n (λ i p. h i (omega arith))) (h (suc n) (omega arith))
 
-pub number_le : (j : ℕ) (b : List ℕ) (at : ℕ) (bs : List ℕ) → bs ≡ take (at + suc j - at) (drop at b)
-    → sum_through (λ i. byte_worth i (get_or bs i 0)) j ≡ number (suc j) b at
-number_le j b at bs e =
-    sum_same _ _ j
-    (λ i h. ap (byte_worth i)
-    (ap (λ (l : List ℕ). get_or l i 0) e ∙ get_or-take (at + suc j - at) (drop at b) i 0 (omega arith) ∙ get_or-drop at b i 0))
-    ∙ sum_bytes j b at
+pub number_le : (k : ℕ) (b : List ℕ) (at : ℕ) → 0 < k
+    → number k b at ≡ sum_through (λ i. byte_worth i (get_or (take (at + k - at) (drop at b)) i 0)) (k - 1)
+number_le zero b at h = absurd (omega arith)
+number_le (suc j) b at h =
+    let e : suc j - 1 ≡ j = omega arith in
+    rw e
+    (sym (sum_bytes j b at)
+    ∙ sum_same _ _ j (λ i h. ap (byte_worth i) (sym (get_or-take (at + suc j - at) (drop at b) i 0 (omega arith) ∙ get_or-drop at b i 0))))
 
 byte_is : (i w : ℕ) → byte_at i w ≡ w / 256 ^ i % 256
 byte_is zero w = rw div-one refl

@@ -1,5 +1,5 @@
 // Numbers in bytes, lowest byte first: one number, and lists of them, of two, four and eight bytes.
-// Knows nothing of what the numbers mean. Each `requires` is a size that the exported calls have tested.
+// Knows nothing of what the numbers mean. Each `requires` says that the bytes are there.
 #![tactic(auto)]
 
 ghost use Rattle.std.specs.Prelude.{◌≡◌, ◌+◌, ◌*◌, ◌≤◌, ℕ, List, length};
@@ -39,10 +39,12 @@ impl Number for u16 {
 
     ghost length_bytes = { length_bytes 2 };
 
+    #[tactic(auto, using(crate::proofs::Bytes::number_le))]
     fn get(b: &[u8], at: usize) -> u16 {
         u16::from_le_bytes(b[at..at + 2].try_into().unwrap())
     }
 
+    #[tactic(auto, using(crate::proofs::Bytes::put_le))]
     fn put(self, b: &mut [u8], at: usize) {
         b[at..at + 2].copy_from_slice(&self.to_le_bytes());
     }
@@ -59,10 +61,12 @@ impl Number for u32 {
 
     ghost length_bytes = { length_bytes 4 };
 
+    #[tactic(auto, using(crate::proofs::Bytes::number_le))]
     fn get(b: &[u8], at: usize) -> u32 {
         u32::from_le_bytes(b[at..at + 4].try_into().unwrap())
     }
 
+    #[tactic(auto, using(crate::proofs::Bytes::put_le))]
     fn put(self, b: &mut [u8], at: usize) {
         b[at..at + 4].copy_from_slice(&self.to_le_bytes());
     }
@@ -79,16 +83,19 @@ impl Number for u64 {
 
     ghost length_bytes = { length_bytes 8 };
 
+    #[tactic(auto, using(crate::proofs::Bytes::number_le))]
     fn get(b: &[u8], at: usize) -> u64 {
         u64::from_le_bytes(b[at..at + 8].try_into().unwrap())
     }
 
+    #[tactic(auto, using(crate::proofs::Bytes::put_le))]
     fn put(self, b: &mut [u8], at: usize) {
         b[at..at + 8].copy_from_slice(&self.to_le_bytes());
     }
 }
 
 // The numbers in the bytes from a place on: as many as `out` holds.
+#[tactic(auto, using(crate::proofs::Bytes::one_in), unfolding(crate::specs::Bytes::each_at))]
 pub fn numbers_in<T: Number>(b: &[u8], at: usize, out: &mut [T])
     requires { at + T.SIZE * length out.old ≤ length b.now }
     ensures { out.new ≡ each_at T.number T.SIZE (length out.old) b.now at }

@@ -1,8 +1,0 @@
--- `u16::put` meets its contract: 2 bytes, lowest first, are laid.
-use Rattle.std.proofs.Common.{◌∙◌}
-use Rattle.wire.proofs.Bytes.{put_le}
-use Rattle.wire.proofs.U16Number.put.Goals as goal
-
-pub returns : goal.returns
-returns c =
-    put_le 2 _ _ _ _ (c.copy_from_slice.ensures.after ∙ c.to_le_bytes.ensures) c.requires

@@ -1,8 +1,0 @@
--- `u32::put` meets its contract: 4 bytes, lowest first, are laid.
-use Rattle.std.proofs.Common.{◌∙◌}
-use Rattle.wire.proofs.Bytes.{put_le}
-use Rattle.wire.proofs.U32Number.put.Goals as goal
-
-pub returns : goal.returns
-returns c =
-    put_le 4 _ _ _ _ (c.copy_from_slice.ensures.after ∙ c.to_le_bytes.ensures) c.requires

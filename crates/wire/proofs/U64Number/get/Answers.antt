@@ -1,9 +1,0 @@
--- `u64::get` meets its contract: 8 bytes, lowest first, are the number.
-use Rattle.std.proofs.Common.{◌∙◌}
-use Rattle.wire.proofs.Bytes.{number_le}
-use Rattle.wire.proofs.U64Number.get.Goals as goal
-
-pub returns : goal.returns
-returns c =
-    let read = rw c.unwrap.ensures at c.try_into.ensures in
-    c.from_le_bytes.ensures ∙ number_le 7 _ _ _ read.1.same
