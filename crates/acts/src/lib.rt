@@ -13,6 +13,7 @@ use clients::settle;
 use model::{Access, Answer, Control, Move, Reason, Stepped};
 use mover::Kept;
 
+// Three functions, where one that takes a closure would say in no contract which words of a row a step may change.
 // ATTACH, DETACH, OPEN, DROP and REST: the whole row is stored.
 fn keep_row(table: &mut [u32], i: u32, o: Stepped) -> Answer
     ensures stored { table.new ≡ put_row table.old i o.row }
@@ -108,8 +109,8 @@ fn put_kept<T: Copy>(whole: &mut T, arena: &mut [u32], table: &mut [u32], kept: 
     kept.answer
 }
 
-#[tactic(auto, unfolding(crate::specs::Acts::by_move))]
 // Whether a keeper's step needs the move alone: ADVANCE, but for a second or third barrier that all have passed.
+#[tactic(auto, unfolding(crate::specs::Acts::by_move))]
 pub fn by_move(code: u32, mv: Move, passed: bool) -> bool
     ensures { result ≡ by_move code mv passed }
 {

@@ -9,7 +9,7 @@ ghost use Rattle.directory.specs.Entries.{start_of};
 // "absent (65535)"
 pub const ABSENT: u16 = 65535;
 
-// The directory's entry of a meter; a meter above 255 is absent.
+// The directory's entry of a meter as it lies, 65535 where absent: 01 lays it in a hold and compares it with holds, which say so too.
 pub fn entry_of(dir: &[u16; 256], meter: u32) -> u16
     ensures { result ≡ entry dir.now meter }
 {

@@ -33,7 +33,7 @@ fn record_of(control: &Control, meter: u32) -> Result<u16, Reason>
 }
 
 // 2 "RETIRE a = meter. Directory entry absent, cells free."
-#[tactic(auto, using(answers::proofs::Reasons::reason_positive), unfolding(crate::specs::Kept::retire_step))]
+#[tactic(auto, using(crate::proofs::Steps::steps), unfolding(crate::specs::Kept::retire_step))]
 pub fn retire(
     mut control: Control,
     arena: &[u32],
@@ -64,7 +64,7 @@ fn first_move(meter: u32, from: u16, target: u16) -> Move
 
 // 3 "BEGIN a = meter. The target is the lowest free run of the record's length. Its cells become used, the flag is set, begun rises
 // by one, passed marks are cleared, the stage is first barrier."
-#[tactic(auto, using(answers::proofs::Reasons::reason_positive, model::proofs::ByKind::cells_short), unfolding(crate::specs::Kept::begin_step))]
+#[tactic(auto, using(crate::proofs::Steps::steps), unfolding(crate::specs::Kept::begin_step))]
 pub fn begin(mut control: Control, arena: &[u32], meter: u32) -> Result<Kept<Control>, Reason>
     ensures { settled control result ≡ begin_step control arena.now meter }
 {
@@ -102,7 +102,7 @@ fn admissible(dir: &[u16; 256], meter: u32, kind: u32) -> Result<(), Reason>
 }
 
 // 1 "ADMIT a = meter, b = kind. Takes the lowest run of free cells long enough. Header 2c, label set, payload zero."
-#[tactic(auto, using(answers::proofs::Reasons::reason_positive, model::proofs::ByKind::cells_short, model::proofs::CellMap::lowest_fits), unfolding(crate::specs::Kept::admit_step, crate::specs::Kept::admit_arena))]
+#[tactic(auto, using(crate::proofs::Steps::steps), unfolding(crate::specs::Kept::admit_step, crate::specs::Kept::admit_arena))]
 pub fn admit(
     mut control: Control,
     arena: &mut [u32],
