@@ -2,22 +2,20 @@
 // Knows nothing of directory, map, move or soundness: every step is total, and equals its turn on every row and arena.
 #![tactic(auto, unfolding(crate::specs::Turns::turn))]
 
-ghost use Rattle.std.specs.Prelude.{◌≡◌, map};
-ghost use Rattle.model.specs.Rows.{with_phase, with_swaps, hold_of, word_of};
+ghost use Rattle.std.specs.Prelude.{◌≡◌, map, get_or, IfOk};
+ghost use Rattle.model.specs.Rows.{with_phase, with_swaps};
+ghost use Rattle.model.specs.Arena.{none, header};
 ghost use Rattle.model.specs.State.{rise, reason_number};
-ghost use Rattle.model.specs.ClientSteps.{done, load_header, swap, finish, forwarded};
+ghost use Rattle.model.specs.ClientSteps.{done, at_header, swap, finish, forwarded};
 ghost use Rattle.model.specs.Choice.{given};
-ghost use Rattle.model.specs.Refusals.{rest_refusals, open_refusals, drop_refusals, access_refusals};
+ghost use Rattle.model.specs.Refusals.{rest_refusals, drop_refusals};
 ghost use Rattle.answers.specs.Answers.{refused_by};
 ghost use Rattle.clients.specs.Turns.{refused_turn, settled, attach_turn, detach_turn, open_turn, drop_turn, access_turn, go_turn, rest_turn};
 
 use answers::refuse_if;
 use model::{Access, Answer, Phase, Put, Reason, Row, Stepped};
 use record::Header;
-use row::{hold_number, hold_of, is_busy, set_hold, with_phase, word_number};
-
-// "each empty (65535) or a cell"
-const NONE: u32 = 65535;
+use row::{NONE, held, hold_number, is_busy, set_hold, with_phase, word_number};
 
 // "All answer 30."
 fn done(row: Row) -> Stepped
@@ -56,30 +54,14 @@ fn rest_refusal(row: Row) -> Result<(), Reason>
     refuse_if(is_busy(row.phase), Reason::Busy)
 }
 
-fn open_refusal(row: Row, entry: u32, meter: u32, hold: u32) -> Result<(), Reason>
-    ensures { refused_by result ≡ given (open_refusals row entry meter hold) }
-{
-    refuse_if(255 < meter, Reason::TooLarge)?;
-    refuse_if(3 < hold, Reason::TooLarge)?;
-    rest_refusal(row)?;
-    refuse_if(entry == NONE, Reason::Absent)
-}
-
-fn drop_refusal(row: Row, hold: u32) -> Result<(), Reason>
-    ensures { refused_by result ≡ given (drop_refusals row hold) }
+// The cell of the named hold, or what refuses DROP, READ and WRITE.
+fn held_cell(row: Row, hold: u32) -> Result<u32, Reason>
+    ensures refused { refused_by result ≡ given (drop_refusals row hold) }
+    ensures found { IfOk result (λ cell. cell ≡ get_or row.holds hold none) }
 {
     refuse_if(3 < hold, Reason::TooLarge)?;
     rest_refusal(row)?;
-    refuse_if(hold_of(row.holds, hold) == NONE, Reason::Absent)
-}
-
-// READ and WRITE are refused as DROP is, then by the record's label, which is read only where the hold is filled.
-fn access_refusal(arena: &[u32], row: Row, x: Access) -> Result<(), Reason>
-    ensures { refused_by result ≡ given (access_refusals arena.now row (hold_of x) (word_of x)) }
-{
-    drop_refusal(row, hold_number(x))?;
-    let lengths = record::lengths_at(arena, hold_of(row.holds, hold_number(x)));
-    refuse_if(lengths.payload <= word_number(x), Reason::PastPayload)
+    held(row.holds, hold).ok_or(Reason::Absent)
 }
 
 // 10 "ATTACH: attached, passed, holds empty."
@@ -112,7 +94,10 @@ pub fn detach(row: Row) -> Result<Stepped, Reason>
 pub fn open_hold(row: Row, entry: u32, meter: u32, hold: u32) -> Result<Stepped, Reason>
     ensures { settled row result ≡ open_turn row entry meter hold }
 {
-    open_refusal(row, entry, meter, hold)?;
+    refuse_if(255 < meter, Reason::TooLarge)?;
+    refuse_if(3 < hold, Reason::TooLarge)?;
+    rest_refusal(row)?;
+    refuse_if(entry == NONE, Reason::Absent)?;
     Ok(done(Row {
         holds: set_hold(row.holds, hold, entry),
         ..row
@@ -123,20 +108,18 @@ pub fn open_hold(row: Row, entry: u32, meter: u32, hold: u32) -> Result<Stepped,
 pub fn drop_hold(row: Row, hold: u32) -> Result<Stepped, Reason>
     ensures { settled row result ≡ drop_turn row hold }
 {
-    drop_refusal(row, hold)?;
+    held_cell(row, hold)?;
     Ok(done(Row {
         holds: set_hold(row.holds, hold, NONE),
         ..row
     }))
 }
 
-// "Loads the held record's header. Flag 0: ready at its target, answer 31 with the target. Flag 1: waiting, answer 32 with the record's
-// cell."
+// "Flag 0: ready at its target, answer 31 with the target. Flag 1: waiting, answer 32 with the record's cell."
 #[tactic(auto, unfolding(model::specs::ClientSteps::at_header))]
-fn load_header(arena: &[u32], row: Row, x: Access) -> Stepped
-    ensures { result ≡ load_header arena.now row x }
+fn at_header(arena: &[u32], row: Row, x: Access, cell: u32) -> Stepped
+    ensures { result ≡ at_header row x cell (header arena.now cell) }
 {
-    let cell = hold_of(row.holds, hold_number(x));
     let header = record::read_header(arena, cell);
     if header.flag {
         Stepped {
@@ -153,12 +136,14 @@ fn load_header(arena: &[u32], row: Row, x: Access) -> Stepped
     }
 }
 
-// 14 READ, 15 WRITE
+// 14 READ, 15 WRITE: "Loads the held record's header." Its label is read first, but only where the hold is filled.
 pub fn start_access(arena: &[u32], row: Row, x: Access) -> Result<Stepped, Reason>
     ensures { settled row result ≡ access_turn arena.now row x }
 {
-    access_refusal(arena, row, x)?;
-    Ok(load_header(arena, row, x))
+    let cell = held_cell(row, hold_number(x))?;
+    let lengths = record::lengths_at(arena, cell);
+    refuse_if(lengths.payload <= word_number(x), Reason::PastPayload)?;
+    Ok(at_header(arena, row, x, cell))
 }
 
 // "Swaps rises by one in both."

@@ -6,17 +6,28 @@ ghost use Rattle.std.specs.Prelude.{◌≡◌, eqb, get_or, set};
 ghost use Rattle.model.specs.Choice.{any};
 ghost use Rattle.model.specs.Arena.{none};
 ghost use Rattle.model.specs.Rows.{access_of, hold_of, word_of, busy, with_phase};
+ghost use Rattle.row.specs.Holds.{held};
 
 use model::{Access, Phase, Row};
 
 // "each empty (65535) or a cell"
-const NONE: u32 = 65535;
+pub const NONE: u32 = 65535;
 
 // A hold above 3 is empty.
 pub fn hold_of(holds: [u32; 4], hold: u32) -> u32
     ensures { result ≡ get_or holds hold none }
 {
     holds.get(hold as usize).copied().unwrap_or(NONE)
+}
+
+// The cell in a hold; a hold above 3 is empty.
+pub fn held(holds: [u32; 4], hold: u32) -> Option<u32>
+    ensures { result ≡ held holds hold }
+{
+    holds
+        .get(hold as usize)
+        .copied()
+        .filter(|cell| *cell != NONE)
 }
 
 // A hold becomes a cell; a hold above 3 is none.
