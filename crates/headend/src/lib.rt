@@ -156,8 +156,8 @@ fn run_steps(steps: usize, slots: usize) -> Option<usize>
     }
 }
 
-// The run, where all sizes fit: steps and slots are read into `words` and `answers`, as many words as they have. Not by `called`, which
-// would carry slots for the calls that have none.
+// The run, where all sizes fit: steps and slots are read into `words` and `answers`, as many words as they have.
+// Not by `called`: tried, and the proof learns nothing of what a closure writes through its captures, here the answers.
 fn run_words(
     b: &mut [u8; SIZE],
     steps: &[u8],
