@@ -12,9 +12,8 @@ use Rattle.model.specs.Steps.{Step, act, Ran, one_by_one, steps_from}
 use Rattle.model.proofs.Choice.{order}
 use Rattle.model.proofs.Says.{get_d_fresh}
 use Rattle.std.specs.Prelude.{Option, Some, None}
-use Rattle.script.specs.declared.Found.{Found}
 use Rattle.script.specs.declared.printing.Page.{Page}
-use Rattle.script.specs.Numbers.{number_at}
+use Rattle.script.specs.Numbers.{Found, number_at}
 use Rattle.script.specs.Lines.{numbers_at}
 use Rattle.script.specs.Printing.{line2}
 use Rattle.script.specs.Pages.{Writes}
@@ -121,7 +120,7 @@ steps_laid_out n vs h Steps i (suc k) =
 few_by : (s : List ℕ) (n at : ℕ) (x : Option Found) → number_at s at ≡ x → ((m : ℕ) → length (numbers_at s n m) ≤ n)
     → length (numbers_at s (suc n) at) ≤ suc n
 few_by s n at None e ih = rw (numbers_stop s at n e) (omega arith)
-few_by s n at (Some x) e ih = rw (numbers_go_on s at n x e) (omega (arith, ih (x.end + 1)))
+few_by s n at (Some x) e ih = rw (numbers_go_on s at n x.value x.end e) (omega (arith, ih (x.end + 1)))
 
 few : (s : List ℕ) (n at : ℕ) → length (numbers_at s n at) ≤ n
 few s zero at = rw (numbers_none s at 0 refl) (omega arith)

@@ -12,11 +12,10 @@ use lib.ListN.{length, get_or, drop, length-append}
 use lib.Seq.{drop-cons, drop-length, take_at, drop_at}
 use Rattle.model.specs.Choice.{pick}
 use Rattle.std.specs.Prelude.{Option, Some, None, Result, Ok, Err, ok_or}
-use Rattle.script.specs.declared.Found.{Found}
 use Rattle.script.specs.declared.Section.{Section}
 use Rattle.script.specs.declared.Script.{Script}
 use Rattle.script.specs.declared.BadFile.{BadFile}
-use Rattle.script.specs.Numbers.{found, number_at}
+use Rattle.script.specs.Numbers.{Found, found, number_at}
 use Rattle.script.specs.Printing.{decimal, line1}
 use Rattle.script.specs.Lines.{◌>>=◌, bad, marked, field_at, line_at, lines_at, section_at, both, parse}
 use Rattle.script.specs.Lines.{numbers_at}
@@ -56,12 +55,12 @@ field_is s mark at n e = field_by s mark at n (number_at s at) refl e
 module _ {s : List ℕ} {mark at v next : ℕ} (f : Field s mark at v next) where
   field_takes : (at + 2 ≤ next) × (v ≤ 4294967295)
   field_takes =
-      let t = number_takes s at (found v f.behind) f.stands_there in
+      let t = number_takes s at v f.behind f.stands_there in
       (omega (arith, t.0, f.ends), t.1.1)
 
   field_splits : (r : ℕ) → numbers_at s (suc r) at ≡ v ∷ numbers_at s r next
   field_splits r =
-      numbers_go_on s at r (found v f.behind) f.stands_there ∙ ap (λ (n : ℕ). v ∷ numbers_at s r n) f.ends
+      numbers_go_on s at r v f.behind f.stands_there ∙ ap (λ (n : ℕ). v ∷ numbers_at s r n) f.ends
 
   field_stands : 0 < mark → drop at s ≡ decimal v ++ (mark ∷ drop next s)
   field_stands h =
@@ -118,7 +117,7 @@ line_by : (s : List ℕ) (spaces at : ℕ) (n : Found) (x : Option Found) → fi
     → ((m : ℕ) → line_at s spaces m ≡ Some n → Line s spaces m n.end) → Line s (suc spaces) at n.end
 line_by s spaces at n None f e ih = no_number (line_at s (suc spaces) at) n (line_breaks s at spaces f) e
 line_by s spaces at n (Some x) f e ih =
-    number_before s spaces at x.value x.end n.end (field_is s 32 at x f) (ih x.end (sym (line_goes_on s at spaces x f) ∙ e))
+    number_before s spaces at x.value x.end n.end (field_is s 32 at x f) (ih x.end (sym (line_goes_on s at spaces x.value x.end f) ∙ e))
 
 line_is : (s : List ℕ) (spaces at : ℕ) (n : Found) → line_at s spaces at ≡ Some n → Line s spaces at n.end
 line_is s zero at n e = last_number s at n.value n.end (field_is s 10 at n (sym (line_ends s at 0 refl) ∙ e))

@@ -13,7 +13,7 @@ use Rattle.script.specs.declared.Script.{Script}
 use Rattle.script.specs.Numbers.{is_digit, found, number_at}
 use Rattle.script.specs.Lines.{field_at, line_at, lines_at, section_at, parse, numbers_at}
 use Rattle.script.specs.Printing.{decimal, line1}
-use Rattle.script.proofs.Lines.{field_marked, line_ends, line_goes_on, lines_end, lines_go_on, numbers_none, numbers_go_on}
+use Rattle.script.proofs.Lines.{field_marked, line_ends, line_goes_on, lines_end, lines_go_on, section_whole, numbers_none, numbers_go_on}
 use Rattle.script.proofs.Numbers.{in_text}
 use Rattle.script.proofs.Decimal.{number_reads}
 use Rattle.script.specs.Texts.{line_rest, line_text, lines_text, script_text, Small, none, more, ScriptNumbers}
@@ -47,8 +47,8 @@ field_reads s mark at n rest h z m e =
     sym (get_or-drop at s (length d) 0) ∙ ap (λ (l : List ℕ). get_or l (length d) 0) e ∙ get_or-append_seam d mark rest 0 in
     record {
       next = behind + 1;
-      there = field_marked s mark at (found n behind) number byte;
-      first = λ r. numbers_go_on s at r (found n behind) number;
+      there = field_marked s mark at n behind number byte;
+      first = λ r. numbers_go_on s at r n behind number;
       left = ap (λ (k : ℕ). drop k s) place ∙ sym (drop-drop (length d + 1) at s) ∙ ap (drop (length d + 1)) e
           ∙ drop-append-add d (mark ∷ rest) 1;
       within = omega (arith, in_text s behind (omega (arith, byte)));
@@ -91,7 +91,7 @@ line_reads s at n (m ∷ l) rest h (more q p) e =
     record {
       value = g.value;
       next = g.next;
-      there = line_goes_on s at (length l) (found n f.next) f.there ∙ g.there;
+      there = line_goes_on s at (length l) n f.next f.there ∙ g.there;
       first = λ r. ap (λ (k : ℕ). numbers_at s k at) (omega arith) ∙ f.first (suc (length l) + r) ∙ ap (λ (x : List ℕ). n ∷ x) (g.first r);
       left = g.left;
       within = g.within;
@@ -138,7 +138,7 @@ lines_read s (suc count) spaces first at words rest h p e =
     (length-drop w words ∙ omega (arith, all)) (small_drop w p) l.left in
     record {
       next = m.next;
-      there = lines_go_on s spaces first at count (found l.value l.next) l.there ∙ m.there;
+      there = lines_go_on s spaces first at count l.value l.next l.there ∙ m.there;
       numbers = ap (λ (k : ℕ). numbers_at s k at) all ∙ l.first (count * w)
           ∙ ap (λ (x : List ℕ). one ++ x) m.numbers ∙ take-append-drop w words;
       left = m.left;
@@ -156,14 +156,14 @@ record SectionRead (s : List ℕ) (spaces first at count : ℕ) (words rest : Li
 
 section_reads : (s : List ℕ) (spaces first at count : ℕ) (words rest : List ℕ) → count ≤ 4294967295 → length words ≡ count * suc spaces
     → Small words → drop at s ≡ (line1 count ++ lines_text count (suc spaces) words) ++ rest → SectionRead s spaces first at count words rest
-unfolding line1 section_at
+unfolding line1
 section_reads s spaces first at count words rest c h p e =
     let f = field_reads s 10 at count (lines_text count (suc spaces) words ++ rest) c (omega arith) lf_no_digit (e ∙ simp append_assoc) in
     let l = lines_read s count spaces (first + 1) f.next words rest h p f.left in
     record {
       start = f.next;
       end = l.next;
-      there = simp (line_ends s at 0 refl ∙ f.there, l.there);
+      there = section_whole s spaces first at count f.next l.next (line_ends s at 0 refl ∙ f.there) l.there;
       numbers = l.numbers;
       left = l.left;
       within = l.within f.within;

@@ -12,8 +12,7 @@ use lib.Seq.{get_or-drop, drop-drop}
 use Rattle.model.specs.Choice.{◌or◌}
 use Rattle.model.proofs.Choice.{clash, and_no, order}
 use Rattle.std.specs.Prelude.{Some}
-use Rattle.script.specs.declared.Found.{Found}
-use Rattle.script.specs.Numbers.{is_digit, digits, value_from, proper, found, number_at}
+use Rattle.script.specs.Numbers.{Found, is_digit, digits, value_from, proper, found, number_at}
 use Rattle.script.specs.Printing.{decimal}
 use Rattle.script.proofs.Numbers.{digit_low, digit_high, digits_front, digits_stop, digits_empty, some_digits, picked}
 use Rattle.script.proofs.Pages.{decimal_small, decimal_more}

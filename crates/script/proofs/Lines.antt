@@ -7,10 +7,9 @@ use borrow.Author.Tests.{eq-eqb, ne_eqb}
 use lib.ListN.{length, get_or}
 use lib.Seq.{sets, set_out}
 use Rattle.std.specs.Prelude.{Option, Some, None, Result, Ok, Err, ok_or}
-use Rattle.script.specs.declared.Found.{Found}
 use Rattle.script.specs.declared.BadFile.{BadFile}
 use Rattle.script.specs.Numbers.{found, number_at}
-use Rattle.script.specs.Lines.{◌>>=◌, bad, field_at, line_at, lines_at, numbers_at}
+use Rattle.script.specs.Lines.{◌>>=◌, bad, field_at, line_at, lines_at, section_at, numbers_at}
 
 -- what was read and is gone on with was read
 pub then_ok : {A B : Type 0} (r : Result A BadFile) (f : A → Result B BadFile) (y : B) → (r >>= f) ≡ Ok y
@@ -37,13 +36,14 @@ module _ (s : List ℕ) (mark at : ℕ) where
   unfolding field_at
   field_missing e = simp e
 
-  pub field_marked : (n : Found) → number_at s at ≡ Some n → get_or s n.end 0 ≡ mark → field_at s mark at ≡ Some (found n.value (n.end + 1))
+  pub field_marked : (v next : ℕ) → number_at s at ≡ Some (found v next) → get_or s next 0 ≡ mark
+      → field_at s mark at ≡ Some (found v (next + 1))
   unfolding field_at
-  field_marked n e m = simp (e, eq-eqb (get_or s n.end 0) mark m)
+  field_marked v next e m = simp (e, eq-eqb (get_or s next 0) mark m)
 
-  pub field_unmarked : (n : Found) → number_at s at ≡ Some n → (get_or s n.end 0 ≡ mark → ⊥) → field_at s mark at ≡ None
+  pub field_unmarked : (v next : ℕ) → number_at s at ≡ Some (found v next) → (get_or s next 0 ≡ mark → ⊥) → field_at s mark at ≡ None
   unfolding field_at
-  field_unmarked n e m = simp (e, ne_eqb (get_or s n.end 0) mark m)
+  field_unmarked v next e m = simp (e, ne_eqb (get_or s next 0) mark m)
 
 -- one of those that are left at turn i of a count
 pub one_left : (i count : ℕ) → i < count → count - i ≡ suc (count - (i + 1))
@@ -54,9 +54,9 @@ module _ (s : List ℕ) (at : ℕ) where
   unfolding line_at
   line_ends k h = rw h refl
 
-  pub line_goes_on : (k : ℕ) (n : Found) → field_at s 32 at ≡ Some n → line_at s (suc k) at ≡ line_at s k n.end
+  pub line_goes_on : (k v next : ℕ) → field_at s 32 at ≡ Some (found v next) → line_at s (suc k) at ≡ line_at s k next
   unfolding line_at
-  line_goes_on k n e = rw (e, line_at)
+  line_goes_on k v next e = rw (e, line_at)
 
   pub line_breaks : (k : ℕ) → field_at s 32 at ≡ None → line_at s (suc k) at ≡ None
   unfolding line_at
@@ -67,21 +67,37 @@ module _ (s : List ℕ) (spaces first at : ℕ) where
   unfolding lines_at
   lines_end k h = rw h refl
 
-  pub lines_go_on : (k : ℕ) (n : Found) → line_at s spaces at ≡ Some n
-      → lines_at s (suc k) spaces first at ≡ lines_at s k spaces (first + 1) n.end
+  pub lines_go_on : (k v next : ℕ) → line_at s spaces at ≡ Some (found v next)
+      → lines_at s (suc k) spaces first at ≡ lines_at s k spaces (first + 1) next
   unfolding lines_at
-  lines_go_on k n e = rw (e, lines_at)
+  lines_go_on k v next e = rw (e, lines_at)
 
   pub lines_break : (k : ℕ) → line_at s spaces at ≡ None → lines_at s (suc k) spaces first at ≡ Err (bad first)
   unfolding lines_at
   lines_break k e = rw (e, lines_at)
 
 -- at turn i of a count
-pub lines_turn : (s : List ℕ) (spaces first at i count : ℕ) (n : Found) → i < count → line_at s spaces at ≡ Some n
-    → lines_at s (count - i) spaces (first + i) at ≡ lines_at s (count - (i + 1)) spaces (first + (i + 1)) n.end
-lines_turn s spaces first at i count n h e =
+pub lines_turn : (s : List ℕ) (spaces first at i count v next : ℕ) → i < count → line_at s spaces at ≡ Some (found v next)
+    → lines_at s (count - i) spaces (first + i) at ≡ lines_at s (count - (i + 1)) spaces (first + (i + 1)) next
+lines_turn s spaces first at i count v next h e =
     let k : first + i + 1 ≡ first + (i + 1) = omega arith in
-    rw (one_left i count h, lines_go_on s spaces (first + i) at (count - (i + 1)) n e, k)
+    rw (one_left i count h, lines_go_on s spaces (first + i) at (count - (i + 1)) v next e, k)
+
+-- A section has no count, or its lines decide.
+module _ (s : List ℕ) (spaces first at : ℕ) where
+  pub section_uncounted : line_at s 0 at ≡ None → section_at s spaces first at ≡ Err (bad first)
+  unfolding section_at
+  section_uncounted e = simp e
+
+  pub section_wrong_line : (count start : ℕ) (d : BadFile) → line_at s 0 at ≡ Some (found count start)
+      → lines_at s count spaces (first + 1) start ≡ Err d → section_at s spaces first at ≡ Err d
+  unfolding section_at
+  section_wrong_line count start d e f = simp (e, f)
+
+  pub section_whole : (count start end : ℕ) → line_at s 0 at ≡ Some (found count start) → lines_at s count spaces (first + 1) start ≡ Ok end
+      → section_at s spaces first at ≡ Ok (record { count = count; start = start; end = end })
+  unfolding section_at
+  section_whole count start end e f = simp (e, f)
 
 -- Numbers laid out as words: no room left, none left, one more.
 pub sets_full : (l : List ℕ) (i : ℕ) (vs : List ℕ) → length l ≤ i → sets l i vs ≡ l
@@ -97,6 +113,6 @@ module _ (s : List ℕ) (at : ℕ) where
   unfolding numbers_at
   numbers_stop k e = rw (e, numbers_at)
 
-  pub numbers_go_on : (k : ℕ) (n : Found) → number_at s at ≡ Some n → numbers_at s (suc k) at ≡ n.value ∷ numbers_at s k (n.end + 1)
+  pub numbers_go_on : (k v next : ℕ) → number_at s at ≡ Some (found v next) → numbers_at s (suc k) at ≡ v ∷ numbers_at s k (next + 1)
   unfolding numbers_at
-  numbers_go_on k n e = rw (e, numbers_at)
+  numbers_go_on k v next e = rw (e, numbers_at)

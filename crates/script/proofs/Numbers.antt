@@ -12,12 +12,10 @@ use lib.ListN.{length, get_or, drop, drop_of_length-le, length-drop, get_or-eq_d
 use lib.Seq.{drop-cons}
 use Rattle.model.specs.Choice.{pick}
 use Rattle.model.proofs.Choice.{clash, and_parts, and_no, order}
-use Rattle.std.specs.Bool.{then_some}
 use Rattle.std.specs.Char.{is_ascii_digit}
 use Rattle.std.specs.Prelude.{Option, Some, None}
 use Rattle.script.specs.declared.Scanned.{Scanned}
-use Rattle.script.specs.declared.Found.{Found}
-use Rattle.script.specs.Numbers.{is_digit, digits, value_from, plain, proper, found, number_at, capped, more, scanned}
+use Rattle.script.specs.Numbers.{Found, is_digit, digits, value_from, plain, proper, found, number_at, capped, more, scanned}
 
 -- only a place within the text holds a byte other than 0
 pub in_text : (s : List ℕ) (i : ℕ) → 0 < get_or s i 0 → i < length s
@@ -135,10 +133,6 @@ pub number_past : (s : List ℕ) (at : ℕ) → length s ≤ at → number_at s 
 unfolding number_at
 number_past s at h = rw (drop_of_length-le s {i = at} h, digits_empty) (simp (none_proper (get_or s at 0) (value_from 0 [])))
 
-picked_some : (x : Bool) (n : Found) → pick x (Some n) None ≡ then_some x n
-picked_some true n = refl
-picked_some false n = refl
-
 number_by : (s : List ℕ) (at v : ℕ) → v ≡ value_from 0 (digits (drop at s)) → v ≤ 4294967295
     → number_at s at ≡ pick (plain (get_or s at 0) (length (digits (drop at s)))) (Some (found v (at + length (digits (drop at s))))) None
 unfolding number_at
@@ -159,10 +153,17 @@ module _ (s : List ℕ) (at : ℕ) (d : Scanned) (e : d ≡ scanned (drop at s))
       let v : ℕ = value_from 0 (digits (drop at s)) in
       simp (not_proper (get_or s at 0) (length (digits (drop at s))) v (capped_none v (value_is ∙ p)))
 
-  pub number_scanned : (v : ℕ) → d.value ≡ Some v → number_at s at ≡ then_some (plain (get_or s at 0) d.count) (found v (at + d.count))
+  number_scanned : (v : ℕ) → d.value ≡ Some v
+      → number_at s at ≡ pick (plain (get_or s at 0) d.count) (Some (found v (at + d.count))) None
   number_scanned v p =
       let w = capped_some (value_from 0 (digits (drop at s))) v (value_is ∙ p) in
-      rw (← count_is) (number_by s at v (sym w.0) w.1 ∙ picked_some (plain (get_or s at 0) (length (digits (drop at s)))) (found v (at + length (digits (drop at s)))))
+      rw (← count_is) (number_by s at v (sym w.0) w.1)
+
+  pub number_plain : (v : ℕ) → d.value ≡ Some v → plain (get_or s at 0) d.count ≡ true → number_at s at ≡ Some (found v (at + d.count))
+  number_plain v p h = number_scanned v p ∙ ap (λ (x : Bool). pick x (Some (found v (at + d.count))) None) h
+
+  pub number_not_plain : (v : ℕ) → d.value ≡ Some v → plain (get_or s at 0) d.count ≡ false → number_at s at ≡ None
+  number_not_plain v p h = number_scanned v p ∙ ap (λ (x : Bool). pick x (Some (found v (at + d.count))) None) h
 
 -- "to 4294967295"
 pub proper_small : (first count v : ℕ) → proper first count v ≡ true → v ≤ 4294967295
@@ -191,15 +192,15 @@ pub some_digits : (first count v : ℕ) → proper first count v ≡ true → 0 
 some_digits first zero v e = clash (proper first 0 v) e (none_proper first v)
 some_digits first (suc n) v e = omega arith
 
-pub number_takes : (s : List ℕ) (at : ℕ) (n : Found) → number_at s at ≡ Some n
-    → (at < n.end) × ((n.end ≤ length s) × (n.value ≤ 4294967295))
+pub number_takes : (s : List ℕ) (at v next : ℕ) → number_at s at ≡ Some (found v next)
+    → (at < next) × ((next ≤ length s) × (v ≤ 4294967295))
 unfolding number_at
-number_takes s at n e =
+number_takes s at v next e =
     let ds = digits (drop at s) in
-    let p = picked (proper (get_or s at 0) (length ds) (value_from 0 ds)) (found (value_from 0 ds) (at + length ds)) n e in
+    let p = picked (proper (get_or s at 0) (length ds) (value_from 0 ds)) (found (value_from 0 ds) (at + length ds)) (found v next) e in
     let some : 0 < length ds = some_digits (get_or s at 0) (length ds) (value_from 0 ds) p.0 in
-    let end : at + length ds ≡ n.end = ap (λ (x : Found). x.end) p.1 in
-    let value : value_from 0 ds ≡ n.value = ap (λ (x : Found). x.value) p.1 in (
+    let end : at + length ds ≡ next = ap (λ (x : Found). x.end) p.1 in
+    let value : value_from 0 ds ≡ v = ap (λ (x : Found). x.value) p.1 in (
       omega arith,
       (
         omega (arith, few_digits (drop at s), length-drop at s),

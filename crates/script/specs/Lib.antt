@@ -1,5 +1,6 @@
 pub mod Numbers
 pub mod Lines
+pub mod Cursors
 pub mod Printing
 pub mod Pages
 pub mod Texts

@@ -2,11 +2,10 @@
 -- `who code a b v`. A line that is wrong, missing or extra: prints only `bad file N`, N its line from 1".
 use Rattle.std.specs.Prelude.{List, [], ◌∷◌, ℕ, zero, suc, ◌+◌, eqb, length, get_or, Option, Some, None, Result, Ok, Err, ok_or}
 use Rattle.model.specs.Choice.{pick}
-use Rattle.script.specs.declared.Found.{Found}
 use Rattle.script.specs.declared.Section.{Section}
 use Rattle.script.specs.declared.Script.{Script}
 use Rattle.script.specs.declared.BadFile.{BadFile}
-use Rattle.script.specs.Numbers.{found, number_at}
+use Rattle.script.specs.Numbers.{Found, found, number_at}
 
 -- what is read, or the first bad line; then what is read behind it
 infixl 10 ◌>>=◌

@@ -2,7 +2,6 @@
 use Rattle.std.specs.Prelude.{Bool, true, false, not, List, [], ◌∷◌, ℕ, ◌+◌, ◌-◌, ◌*◌, eqb, ltb, leb, length, get_or, drop, Option, Some, None}
 use Rattle.model.specs.Choice.{pick, ◌and◌, ◌or◌}
 use Rattle.script.specs.declared.Scanned.{Scanned}
-use Rattle.script.specs.declared.Found.{Found}
 
 -- the bytes `0` to `9`
 unfoldable pub is_digit : ℕ → Bool
@@ -25,6 +24,11 @@ plain first count = not (eqb count 0) and (eqb count 1 or not (eqb first 48))
 -- "to 4294967295" besides: what they write
 unfoldable pub proper : ℕ → ℕ → ℕ → Bool
 proper first count value = not (ltb 4294967295 value) and plain first count
+
+-- a number and the place behind it
+pub record Found : Type 0 where
+  pub value : ℕ
+  pub end : ℕ
 
 abbrev pub found : ℕ → ℕ → Found
 found value end = record { value = value; end = end }

@@ -16,13 +16,6 @@ pub struct Scanned {
     pub count: usize,
 }
 
-// A number and the place behind it.
-#[derive(Clone, Copy)]
-pub struct Found {
-    pub value: u32,
-    pub end: usize,
-}
-
 // A section: its count, the place of its first line, the place behind it.
 #[derive(Clone, Copy)]
 pub struct Section {

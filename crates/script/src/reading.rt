@@ -1,18 +1,11 @@
 // Reading: the text to a script, or to the number of its first wrong line.
-// Text and place are two parameters, so each contract is one equation; a cursor's would say too what is read, and that the text stays.
-ghost use Rattle.std.specs.Prelude.{◌≡◌, true, ◌+◌, ◌≤◌, ◌<◌, length, get_or};
+ghost use Rattle.std.specs.Prelude.{◌≡◌, true, ◌+◌, ◌≤◌, ◌<◌, length, get_or, IfOk};
 ghost use Rattle.std.proofs.lemmas.List.Edits.{sets};
 ghost use Rattle.script.specs.Numbers.{is_digit, more, scanned, plain, number_at};
-ghost use Rattle.script.specs.Lines.{field_at, line_at, lines_at, section_at, parse, numbers_at};
+ghost use Rattle.script.specs.Lines.{field_at, line_at, section_at, parse, numbers_at};
+ghost use Rattle.script.specs.Cursors.{Reads, StandsBehind};
 
-use super::{BadFile, Found, LF, SPACE, Scanned, Script, Section};
-
-// The byte at a place; 0 behind the end of the text.
-fn byte_at(s: &[u8], at: usize) -> u8
-    ensures { result ≡ get_or s.now at 0 }
-{
-    s.get(at).copied().unwrap_or(0)
-}
+use super::{BadFile, LF, SPACE, Scanned, Script, Section};
 
 // One digit more.
 fn more(value: Option<u32>, digit: u8) -> Option<u32>
@@ -45,79 +38,87 @@ fn is_plain(first: u8, count: usize) -> bool
     count == 1 || first != b'0' && count != 0
 }
 
-// The number at a place.
-fn number(s: &[u8], at: usize) -> Option<Found>
-    ensures { result ≡ number_at s.now at }
-{
-    let digits = scan(s.get(at..)?);
-    let value = digits.value?;
-    let end = at + digits.count;
-    is_plain(byte_at(s, at), digits.count).then_some(Found { value, end })
+// A text and the place in it that is read next.
+#[derive(Drop)]
+struct Cursor<'a> {
+    text: &'a [u8],
+    at: usize,
 }
 
-// A number with the byte `mark` behind it; not 0, which is what stands behind the end of the text.
-fn field(s: &[u8], at: usize, mark: u8) -> Option<Found>
-    requires { 0 < mark }
-    ensures { result ≡ field_at s.now mark at }
-{
-    let Found { value, end } = number(s, at)?;
-    if byte_at(s, end) != mark {
-        return None;
+impl Cursor<'_> {
+    // The byte that is read next; 0 behind the end of the text.
+    fn byte(&self) -> u8
+        ensures { result ≡ get_or self.now.text.now self.now.at 0 }
+    {
+        self.text.get(self.at).copied().unwrap_or(0)
     }
-    Some(Found {
-        value,
-        end: end + 1,
-    })
-}
 
-// "one space between, each line ended by LF": the last number of the line, and the place behind it.
-fn line(s: &[u8], spaces: u32, at: usize) -> Option<Found>
-    ensures { result ≡ line_at s.now spaces at }
-{
-    let mut place = at;
-    for _ in 0..spaces {
-        place = field(s, place, SPACE)?.end;
+    fn number(&mut self) -> Option<u32>
+        ensures { Reads self.old self.new result (number_at self.old.text.now self.old.at) }
+    {
+        let digits = scan(self.text.get(self.at..)?);
+        let value = digits.value?;
+        if !is_plain(self.byte(), digits.count) {
+            return None;
+        }
+        self.at += digits.count;
+        Some(value)
     }
-    field(s, place, LF)
-}
 
-// `count` lines, of which the first has the number `first`, at most 2^33, so that no number of a line wraps: the place behind them.
-fn lines(s: &[u8], count: u32, spaces: u32, first: usize, at: usize) -> Result<usize, BadFile>
-    requires { first ≤ 8589934592 }
-    ensures { result ≡ lines_at s.now count spaces first at }
-{
-    let mut place = at;
-    for i in 0..count {
-        let bad = BadFile {
-            line: first + i as usize,
-        };
-        place = line(s, spaces, place).ok_or(bad)?.end;
+    // A number with the byte `mark` behind it; not 0, which is what stands behind the end of the text.
+    fn field(&mut self, mark: u8) -> Option<u32>
+        requires { 0 < mark }
+        ensures { Reads self.old self.new result (field_at self.old.text.now mark self.old.at) }
+    {
+        let value = self.number()?;
+        if self.byte() != mark {
+            return None;
+        }
+        self.at += 1;
+        Some(value)
     }
-    Ok(place)
-}
 
-// "Two sections, each after its count"
-#[tactic(auto, unfolding(crate::specs::Lines::section_at))]
-fn section(s: &[u8], spaces: u32, first: usize, at: usize) -> Result<Section, BadFile>
-    requires { first ≤ 8589934591 }
-    ensures { result ≡ section_at s.now spaces first at }
-{
-    let Found {
-        value: count,
-        end: start,
-    } = line(s, 0, at).ok_or(BadFile { line: first })?;
-    let end = lines(s, count, spaces, first + 1, start)?;
-    Ok(Section { count, start, end })
+    // "one space between, each line ended by LF": the last number of the line.
+    fn line(&mut self, spaces: u32) -> Option<u32>
+        ensures { Reads self.old self.new result (line_at self.old.text.now spaces self.old.at) }
+    {
+        for _ in 0..spaces {
+            self.field(SPACE)?;
+        }
+        self.field(LF)
+    }
+
+    // "Two sections, each after its count": its first line has the number `first`, below 2^33, so that no number of a line wraps.
+    fn section(&mut self, spaces: u32, first: usize) -> Result<Section, BadFile>
+        requires { first ≤ 8589934591 }
+        ensures value { result ≡ section_at self.old.text.now spaces first self.old.at }
+        ensures place { IfOk result (StandsBehind self.old self.new) }
+    {
+        let count = self.line(0).ok_or(BadFile { line: first })?;
+        let start = self.at;
+        for i in 0..count {
+            let bad = BadFile {
+                line: first + 1 + i as usize,
+            };
+            self.line(spaces).ok_or(bad)?;
+        }
+        Ok(Section {
+            count,
+            start,
+            end: self.at,
+        })
+    }
 }
 
 // The whole text: a script, or its first line that is wrong, missing or extra.
 #[tactic(auto, unfolding(crate::specs::Lines::parse))]
-pub fn parse(s: &[u8]) -> Result<Script, BadFile>
-    ensures { result ≡ parse s.now }
+pub fn parse(text: &[u8]) -> Result<Script, BadFile>
+    ensures { result ≡ parse text.now }
 {
-    let admissions = section(s, 1, 1, 0)?;
-    let steps = section(s, 4, admissions.count as usize + 2, admissions.end)?;
-    if steps.end != s.len() {
+    let mut cursor = Cursor { text, at: 0 };
+    let admissions = cursor.section(1, 1)?;
+    let steps = cursor.section(4, admissions.count as usize + 2)?;
+    if steps.end != text.len() {
         return Err(BadFile {
             line: admissions.count as usize + steps.count as usize + 3,
         });
@@ -126,15 +127,15 @@ pub fn parse(s: &[u8]) -> Result<Script, BadFile>
 }
 
 // As many numbers as there are words, from a place on, laid out as words.
-pub fn numbers(s: &[u8], at: usize, words: &mut [u32])
-    ensures { words.new ≡ sets words.old 0 (numbers_at s.now (length words.old) at) }
+pub fn numbers(text: &[u8], at: usize, words: &mut [u32])
+    ensures { words.new ≡ sets words.old 0 (numbers_at text.now (length words.old) at) }
 {
-    let mut from = at;
+    let mut cursor = Cursor { text, at };
     for word in words.iter_mut() {
-        let Some(Found { value, end }) = number(s, from) else {
+        let Some(value) = cursor.number() else {
             return;
         };
         *word = value;
-        from = end + 1;
+        cursor.at += 1;
     }
 }
