@@ -53,6 +53,7 @@ impl Cursor<'_> {
         self.text.get(self.at).copied().unwrap_or(0)
     }
 
+    // "Decimal numbers to 4294967295, no needless leading zero"
     fn number(&mut self) -> Option<u32>
         ensures { Reads self.old self.new result (number_at self.old.text.now self.old.at) }
     {
