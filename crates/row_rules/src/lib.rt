@@ -20,6 +20,7 @@ const NONE: u32 = 65535;
 
 const ROWS: u32 = 8;
 
+// eight rows of twelve words; a table of another size has no rows
 const TABLE_WORDS: usize = 96;
 
 // Control record and arena of which R1 holds: each present record is labelled with its meter.
@@ -82,6 +83,7 @@ impl<'a> Records<'a> {
     }
 
     // R6, on every row of the table.
+    #[tactic(auto, using(table::proofs::Rows::no_rows), unfolding(model::specs::Rules::R6))]
     pub fn rows_right(self, table: &[u32]) -> bool
         ensures { result ≡ R6 self.entry.control.now.dir self.entry.control.now.mv
             self.entry.arena.now (rows_of table.now) }
@@ -101,6 +103,7 @@ fn detached_right(row: Row) -> bool
     row.attached || (row.passed && all_empty(row.holds) && !is_busy(row.phase))
 }
 
+#[tactic(auto, using(crate::proofs::Holds::empty_four))]
 fn all_empty(holds: [u32; 4]) -> bool
     ensures { result ≡ all (eqb none) holds }
 {
@@ -160,6 +163,7 @@ fn owed_by(flag: bool, from: u32, phase: Phase) -> u64
 
 // R8 "Swaps ≤ begun. While a header is flagged, swaps < begun, and a row waiting on another record has swaps + 1 < begun. While none is
 // flagged, a waiting row has swaps < begun."
+#[tactic(auto, using(crate::proofs::Owed::owed_decides))]
 fn swaps_right(flag: bool, from: u32, begun: u32, row: Row) -> bool
     ensures { result ≡ swaps_right flag from begun row }
 {
@@ -167,6 +171,7 @@ fn swaps_right(flag: bool, from: u32, begun: u32, row: Row) -> bool
 }
 
 // R8, on every row of the table.
+#[tactic(auto, using(table::proofs::Rows::no_rows), unfolding(model::specs::Rules::R8))]
 pub fn all_swaps_right(control: &Control, arena: &[u32], table: &[u32]) -> bool
     ensures { result ≡ R8 control.now.mv control.now.begun arena.now (rows_of table.now) }
 {

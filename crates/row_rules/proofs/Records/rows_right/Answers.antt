@@ -4,13 +4,8 @@ use Rattle.std.proofs.lemmas.Iterator.{YieldsList-from_range}
 use Rattle.std.proofs.lemmas.Iterator.Search.{all_from_yields_List}
 use Rattle.model.specs.Rules.{row_right, R6}
 use Rattle.table.specs.Words.{row_at}
-use Rattle.table.proofs.Rows.{no_rows}
 use Rattle.row_rules.proofs.Rows.{rows_asked}
 use Rattle.row_rules.proofs.Records.rows_right.Goals as goal
-
-pub returns-then-table-ne-TABLE_WORDS : goal.returns-then-table-ne-TABLE_WORDS
-unfolding R6
-returns-then-table-ne-TABLE_WORDS c = rw (no_rows c.args.table.now c.if-table-ne-TABLE_WORDS.true)
 
 pub returns : goal.returns
 unfolding R6
