@@ -87,7 +87,7 @@ pub fn client(
             keep_swap(table, i, o)
         }
         17 => keep_row(table, i, settle(row, clients::rest(arena, row))),
-        _ => Answer::from(Reason::Unknown),
+        0..=9 | 18..=4294967295 => Answer::from(Reason::Unknown),
     }
 }
 

@@ -3,12 +3,12 @@
 #![tactic(auto, unfolding(crate::specs::Turns::turn))]
 
 ghost use Rattle.std.specs.Prelude.{◌≡◌, map, get_or, IfOk};
-ghost use Rattle.model.specs.Rows.{with_phase, with_swaps};
+ghost use Rattle.model.specs.Rows.{with_phase, with_swaps, hold_of, word_of};
 ghost use Rattle.model.specs.Arena.{none, header};
 ghost use Rattle.model.specs.State.{rise, reason_number};
 ghost use Rattle.model.specs.ClientSteps.{done, at_header, swap, finish, forwarded};
 ghost use Rattle.model.specs.Choice.{given};
-ghost use Rattle.model.specs.Refusals.{rest_refusals, drop_refusals};
+ghost use Rattle.model.specs.Refusals.{attach_refusals, rest_refusals, open_refusals, drop_refusals, access_refusals, go_refusals};
 ghost use Rattle.answers.specs.Answers.{refused_by};
 ghost use Rattle.clients.specs.Turns.{refused_turn, settled, attach_turn, detach_turn, open_turn, drop_turn, access_turn, go_turn, rest_turn};
 
@@ -66,7 +66,8 @@ fn held_cell(row: Row, hold: u32) -> Result<u32, Reason>
 
 // 10 "ATTACH: attached, passed, holds empty."
 pub fn attach(row: Row) -> Result<Stepped, Reason>
-    ensures { settled row result ≡ attach_turn row }
+    ensures settled { settled row result ≡ attach_turn row }
+    ensures refused { refused_by result ≡ given (attach_refusals row) }
 {
     refuse_if(row.attached, Reason::Already)?;
     Ok(done(Row {
@@ -79,7 +80,8 @@ pub fn attach(row: Row) -> Result<Stepped, Reason>
 
 // 11 "DETACH: unattached, passed, holds empty; swaps stay."
 pub fn detach(row: Row) -> Result<Stepped, Reason>
-    ensures { settled row result ≡ detach_turn row }
+    ensures settled { settled row result ≡ detach_turn row }
+    ensures refused { refused_by result ≡ given (rest_refusals row) }
 {
     rest_refusal(row)?;
     Ok(done(Row {
@@ -92,7 +94,8 @@ pub fn detach(row: Row) -> Result<Stepped, Reason>
 
 // 12 "OPEN a = meter, b = hold: the hold gets the directory's cell, even over an old hold."
 pub fn open_hold(row: Row, entry: u32, meter: u32, hold: u32) -> Result<Stepped, Reason>
-    ensures { settled row result ≡ open_turn row entry meter hold }
+    ensures settled { settled row result ≡ open_turn row entry meter hold }
+    ensures refused { refused_by result ≡ given (open_refusals row entry meter hold) }
 {
     refuse_if(255 < meter, Reason::TooLarge)?;
     refuse_if(3 < hold, Reason::TooLarge)?;
@@ -106,7 +109,8 @@ pub fn open_hold(row: Row, entry: u32, meter: u32, hold: u32) -> Result<Stepped,
 
 // 13 "DROP a = hold: empties it."
 pub fn drop_hold(row: Row, hold: u32) -> Result<Stepped, Reason>
-    ensures { settled row result ≡ drop_turn row hold }
+    ensures settled { settled row result ≡ drop_turn row hold }
+    ensures refused { refused_by result ≡ given (drop_refusals row hold) }
 {
     held_cell(row, hold)?;
     Ok(done(Row {
@@ -138,7 +142,8 @@ fn at_header(arena: &[u32], row: Row, x: Access, cell: u32) -> Stepped
 
 // 14 READ, 15 WRITE: "Loads the held record's header." Its label is read first, but only where the hold is filled.
 pub fn start_access(arena: &[u32], row: Row, x: Access) -> Result<Stepped, Reason>
-    ensures { settled row result ≡ access_turn arena.now row x }
+    ensures settled { settled row result ≡ access_turn arena.now row x }
+    ensures refused { refused_by result ≡ given (access_refusals arena.now row (hold_of x) (word_of x)) }
 {
     let cell = held_cell(row, hold_number(x))?;
     let lengths = record::lengths_at(arena, cell);
@@ -207,7 +212,8 @@ fn finish(arena: &[u32], row: Row, cell: u32, x: Access) -> Stepped
 
 // 16 GO
 pub fn go(arena: &[u32], row: Row) -> Result<Stepped, Reason>
-    ensures { settled row result ≡ go_turn arena.now row }
+    ensures settled { settled row result ≡ go_turn arena.now row }
+    ensures refused { refused_by result ≡ given (go_refusals row) }
 {
     refuse_if(!row.attached, Reason::Unattached)?;
     match row.phase {
@@ -237,7 +243,8 @@ fn forward_all(arena: &[u32], holds: [u32; 4]) -> [u32; 4]
 
 // 17 REST: "then passed is set"
 pub fn rest(arena: &[u32], row: Row) -> Result<Stepped, Reason>
-    ensures { settled row result ≡ rest_turn arena.now row }
+    ensures settled { settled row result ≡ rest_turn arena.now row }
+    ensures refused { refused_by result ≡ given (rest_refusals row) }
 {
     rest_refusal(row)?;
     Ok(done(Row {

@@ -25,7 +25,12 @@ settled c (Err reason) = refused_kept c (reason_number reason)
 abbrev pub record_refusals : List ℕ → ℕ → ℕ → List Refusal
 record_refusals dir stage meter = 5 if bad_meter meter ∷ 8 if in_hand (stage_of stage) ∷ 10 if is_none (entry dir meter) ∷ []
 
--- RETIRE of the record at a cell; whether some row holds it is told
+-- and 11, which RETIRE has besides; whether some row holds the record is told
+abbrev pub retire_lines : List ℕ → ℕ → Bool → ℕ → List Refusal
+retire_lines dir stage held meter =
+    5 if bad_meter meter ∷ 8 if in_hand (stage_of stage) ∷ 10 if is_none (entry dir meter) ∷ 11 if held ∷ []
+
+-- RETIRE of the record at a cell
 abbrev pub retired_kept : Control → List ℕ → ℕ → ℕ → Kept Control
 retired_kept c arena meter cell = stays (with_entry (freed c cell (cells_at arena cell)) meter none) (Done 0)
 

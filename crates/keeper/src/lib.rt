@@ -7,7 +7,8 @@ ghost use Rattle.model.specs.State.{in_hand, entry};
 ghost use Rattle.model.specs.KeeperSteps.{first_move};
 ghost use Rattle.model.specs.Choice.{given};
 ghost use Rattle.answers.specs.Answers.{refused_by};
-ghost use Rattle.keeper.specs.Kept.{settled, record_refusals, new_refusals, retire_step, begin_step, admit_step, admit_arena};
+ghost use Rattle.model.specs.Refusals.{admit_refusals, begin_refusals};
+ghost use Rattle.keeper.specs.Kept.{settled, record_refusals, retire_lines, new_refusals, retire_step, begin_step, admit_step, admit_arena};
 
 use answers::refuse_if;
 use cells::{Cell, Run};
@@ -40,7 +41,8 @@ pub fn retire(
     held: bool,
     meter: u32,
 ) -> Result<Kept<Control>, Reason>
-    ensures { settled control result ≡ retire_step control arena.now held meter }
+    ensures kept { settled control result ≡ retire_step control arena.now held meter }
+    ensures refused { refused_by result ≡ given (retire_lines control.dir control.mv.stage held meter) }
 {
     let cell = record_of(&control, meter)?;
     refuse_if(held, Reason::Held)?;
@@ -66,7 +68,8 @@ fn first_move(meter: u32, from: u16, target: u16) -> Move
 // by one, passed marks are cleared, the stage is first barrier."
 #[tactic(auto, using(crate::proofs::Steps::steps), unfolding(crate::specs::Kept::begin_step))]
 pub fn begin(mut control: Control, arena: &[u32], meter: u32) -> Result<Kept<Control>, Reason>
-    ensures { settled control result ≡ begin_step control arena.now meter }
+    ensures kept { settled control result ≡ begin_step control arena.now meter }
+    ensures refused { refused_by result ≡ given (begin_refusals control arena.now meter) }
 {
     let from = record_of(&control, meter)?;
     let cell = from as u32;
@@ -110,6 +113,7 @@ pub fn admit(
     kind: u32,
 ) -> Result<Kept<Control>, Reason>
     ensures kept { settled control result ≡ admit_step control meter kind }
+    ensures refused { refused_by result ≡ given (admit_refusals control meter kind) }
     ensures laid { arena.new ≡ admit_arena control arena.old meter kind }
 {
     admissible(&control.dir, meter, kind)?;
