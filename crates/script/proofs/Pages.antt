@@ -49,6 +49,10 @@ writes_room p q b h e f g =
 pub writes_full : (p : Lent) (b : ℕ) → length p.out.now ≤ p.at → Writes p p (b ∷ [])
 writes_full p b h = record { same_reference = refl; page = rw (written_one (seen p) b, put_full p.out.now p.at b h) }
 
+-- one byte, by its value
+pub writes_byte : {p q : Lent} {x y : ℕ} → x ≡ y → Writes p q (x ∷ []) → Writes p q (y ∷ [])
+writes_byte e w = rw e at w
+
 -- A number below ten is one digit; any other its tenth's digits and its last.
 last_digit : (k n : ℕ) → n < 10 → decimal_in k n ≡ (n + 48) ∷ []
 unfolding decimal_in
