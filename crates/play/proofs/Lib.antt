@@ -1,3 +1,4 @@
 pub mod Archives
+pub mod Steps
 pub mod Sections
 pub mod Printed

@@ -49,11 +49,11 @@ totals_after l =
     }
 
 -- what steps reach from what was reached was reached
-record Reach (s : State) : Type 0 where
+pub record Reach (s : State) : Type 0 where
   pub steps : List Step
   pub is : s ≡ after steps
 
-run_reaches : (k l : List Step) → Reach (one_by_one act (after k) l).next
+pub run_reaches : (k l : List Step) → Reach (one_by_one act (after k) l).next
 run_reaches k [] = record { steps = k; is = refl }
 run_reaches k (t ∷ l) = run_reaches (t ∷ k) l
 

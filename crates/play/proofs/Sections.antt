@@ -2,12 +2,12 @@
 -- definition. Assumes nothing.
 use mathlib.Core.Path.{◌≡◌, refl, sym, ap, ◌∙◌}
 use mathlib.Core.Logic.{⊎_elim}
-use mathlib.Core.List.{List, [], ◌∷◌, ◌++◌, append_assoc, append-nil}
+use mathlib.Core.List.{List, [], ◌∷◌, ◌++◌, append-nil}
 use Prim.Native.Nat.{ℕ, zero, suc, ◌+◌, ◌-◌, ◌*◌, ◌≤◌}
 use native.Mathlib.Omega.{arith}
 use lib.ListN.{length, get_or, take, drop, replicate, length-replicate, get_or-eq_default}
 use lib.Seq.{sets, sets-eq, get_or-append-add, get_or-drop}
-use Rattle.model.specs.State.{State, Outcome, number, value}
+use Rattle.model.specs.State.{State}
 use Rattle.model.specs.Steps.{Step, act, Ran, one_by_one, steps_from}
 use Rattle.model.proofs.Choice.{order}
 use Rattle.model.proofs.Says.{get_d_fresh}
@@ -15,32 +15,20 @@ use Rattle.std.specs.Prelude.{Option, Some, None}
 use Rattle.script.specs.declared.printing.Page.{Page}
 use Rattle.script.specs.Numbers.{Found, number_at}
 use Rattle.script.specs.Lines.{numbers_at}
-use Rattle.script.specs.Printing.{line2}
-use Rattle.script.specs.Pages.{Writes}
+use Rattle.script.specs.Printing.{written}
+use Rattle.script.specs.Pages.{seen, Writes}
 use Rattle.script.specs.Replay.{admissions_from, answer_lines}
-use Rattle.script.specs.Sizes.{Short, none, more}
+use Rattle.script.specs.Sizes.{none}
 use Rattle.script.proofs.Lines.{numbers_none, numbers_stop, numbers_go_on}
-use Rattle.script.proofs.Pages.{writes_then}
+use Rattle.script.proofs.Pages.{written_append}
 use Rattle.script.proofs.Replay.{words_there}
 use Rattle.turns.specs.declared.Numbers.{Numbers}
 use Rattle.play.specs.declared.Lines.{Lines}
 use Rattle.play.specs.declared.Lines.TheVariants.{Admissions, Steps}
 use Rattle.play.specs.Plays.{step_in, steps_in, per_line, run_in, section_run, numbers_of, one_step, Plays}
+use Rattle.play.proofs.Steps.{Leads, leads_from, leads_on, leads_behind, leads_end}
 
--- A step behind others
-next_behind : (s : State) (t : Step) (l : List Step) → (one_by_one act s (l ++ (t ∷ []))).next ≡ (act (one_by_one act s l).next t).next
-next_behind s t [] = refl
-next_behind s t (k ∷ l) = next_behind (act s k).next t l
-
-abbrev slot_of : Outcome → List ℕ
-slot_of o = number o.answer ∷ value o.answer ∷ []
-
-slots_behind : (s : State) (t : Step) (l : List Step)
-    → (one_by_one act s (l ++ (t ∷ []))).slots ≡ (one_by_one act s l).slots ++ slot_of (act (one_by_one act s l).next t)
-slots_behind s t [] = refl
-slots_behind s t (k ∷ l) =
-    ap (λ (z : List ℕ). number (act s k).answer ∷ value (act s k).answer ∷ z) (slots_behind (act s k).next t l)
-
+-- A section's lines: one more behind those that were run
 steps_behind : (lines : Lines) (words : List ℕ) (i n : ℕ)
     → steps_in lines words i (suc n) ≡ steps_in lines words i n ++ (step_in lines words (i + n) ∷ [])
 unfolding steps_in
@@ -49,16 +37,6 @@ steps_behind lines words i (suc n) =
     let k : suc i + n ≡ i + suc n = omega arith in
     ap (λ (l : List Step). step_in lines words i ∷ l) (steps_behind lines words (suc i) n
     ∙ ap (λ (j : ℕ). steps_in lines words (suc i) n ++ (step_in lines words j ∷ [])) k)
-
-lines_behind : {a : List ℕ} (b : List ℕ) → Short a → answer_lines (a ++ b) ≡ answer_lines a ++ answer_lines b
-unfolding answer_lines
-lines_behind b none = refl
-lines_behind b (more {n = n} {v = v} {slots = slots} p q r) =
-    ap (λ (z : List ℕ). line2 n v ++ z) (lines_behind b r) ∙ sym (append_assoc (line2 n v) (answer_lines slots) (answer_lines b))
-
-short_behind : {a b : List ℕ} → Short a → Short b → Short (a ++ b)
-short_behind none k = k
-short_behind (more p q r) k = more p q (short_behind r k)
 
 -- the first steps of a section, and one more
 module _ (s : State) (lines : Lines) (words : List ℕ) where
@@ -76,15 +54,14 @@ module _ (s : State) (lines : Lines) (words : List ℕ) where
       let all : 0 + i ≡ i = omega arith in
       let k : steps_in lines words 0 (i + 1) ≡ l ++ (t ∷ []) =
       ap (steps_in lines words 0) one ∙ steps_behind lines words 0 i ∙ ap (λ (j : ℕ). l ++ (step_in lines words j ∷ [])) all in
-      let Q' : Plays so_far.next n q r [] (one_by_one act so_far.next (t ∷ [])) = rw (e, P.next) at Q in
-      let slot : List ℕ = slot_of (act so_far.next t) in
-      rw k
-      (record {
-        next = Q'.next ∙ sym (next_behind s t l);
-        prints = rw (slots_behind s t l, lines_behind slot P.short, ← append_assoc first (answer_lines so_far.slots) (answer_lines slot))
-            (writes_then P.prints Q'.prints);
-        short = rw (slots_behind s t l) (short_behind P.short Q'.short);
-      })
+      let run : Ran = one_by_one act s (l ++ (t ∷ [])) in
+      let w = written (seen p) first in
+      let L : Leads (seen q) (one_by_one act m (t ∷ [])) w run =
+      rw (P.next, P.prints.page, written_append (seen p) first (answer_lines so_far.slots))
+      (leads_behind s l (t ∷ []) P.short (leads_from w run)) in
+      let Q' : Plays m n q r [] (one_step m (numbers_of t)) = rw e at Q in
+      let E : Leads (seen r) (one_by_one act n []) w run = leads_on m n (numbers_of t) [] Q' L in
+      rw k (leads_end (Q.prints.same_reference ∙ P.prints.same_reference) E)
 
 -- numbers laid out over zeros: the same numbers, and zeros behind them
 behind : (n : ℕ) (vs : List ℕ) (j : ℕ) → length vs ≤ n → ◌≡◌ {A = ℕ} (get_or (sets (replicate n 0) 0 vs) (length vs + j) 0) 0
@@ -100,7 +77,7 @@ laid_out n vs i h =
     rw (get_or-eq_default vs 0 {n = i} k) (ap (λ (j : ℕ). get_or (sets (replicate n 0) 0 vs) j 0) e ∙ behind n vs (i - length vs) h))
     (order i (length vs))
 
-steps_laid_out : (n : ℕ) (vs : List ℕ) → length vs ≤ n → (lines : Lines) (i k : ℕ)
+pub steps_laid_out : (n : ℕ) (vs : List ℕ) → length vs ≤ n → (lines : Lines) (i k : ℕ)
     → steps_in lines (sets (replicate n 0) 0 vs) i k ≡ steps_in lines vs i k
 unfolding steps_in
 steps_laid_out n vs h lines i zero = refl
