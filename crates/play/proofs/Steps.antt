@@ -28,11 +28,11 @@ one_line : (p : Page) (n v : ℕ) → written p (answer_lines (n ∷ v ∷ [])) 
 unfolding answer_lines written
 one_line p n v = written_append p (line2 n v) []
 
--- after one more step, the rest from what is there then
+-- after one more step, the rest from what is there then: on any pages, and on lent ones
 with_first : {n v : ℕ} {slots : List ℕ} → Short (n ∷ v ∷ []) → Short slots → Short (n ∷ v ∷ slots)
 with_first (more i j k) h = more i j h
 
-leads_past : (s : State) (t : Step) (l : List Step) {p q : Page} {all : Ran} → Short (one_by_one act s (t ∷ [])).slots
+pub leads_past : (s : State) (t : Step) (l : List Step) {p q : Page} {all : Ran} → Short (one_by_one act s (t ∷ [])).slots
     → Leads p (one_by_one act s (t ∷ l)) q all
     → Leads (written p (line2 (number (act s t).answer) (value (act s t).answer))) (one_by_one act (act s t).next l) q all
 leads_past s t l {p} h L =
