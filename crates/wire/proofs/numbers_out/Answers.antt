@@ -1,5 +1,5 @@
 -- `wire::numbers_out` meets its contract: a number more is SIZE bytes more.
-use Rattle.std.proofs.Common.{sym, arith}
+use Rattle.std.proofs.Common.{sym, arith, rules}
 use Rattle.model.proofs.Records.{laid_none}
 use Rattle.wire.proofs.Bytes.{one_out}
 use Rattle.wire.proofs.numbers_out.Goals as goal
@@ -11,4 +11,4 @@ pub loop-i-preserved : goal.loop-i-preserved
 loop-i-preserved g c =
     let n = g.T.Number in
     one_out n.bytes n.SIZE g.met.T.Number.length_bytes c.args.ws.now c.loop-i.i c.index-ws-i.result c.args.b.now c.args.at
-    (omega arith) c.index-ws-i.is c.loop-i.invariant (rw c.SIZE.ensures at c.put.ensures)
+    (omega arith) c.index-ws-i.is c.loop-i.invariant (search rules)
