@@ -3,7 +3,7 @@
 #![tactic(auto)]
 
 ghost use Rattle.std.specs.Prelude.{◌≡◌, eqb, get_or, set};
-ghost use Rattle.model.specs.Choice.{any};
+ghost use Rattle.model.specs.Choice.{pick, any};
 ghost use Rattle.model.specs.Arena.{none};
 ghost use Rattle.model.specs.Rows.{access_of, hold_of, word_of, busy, with_phase};
 ghost use Rattle.row.specs.Holds.{held};
@@ -12,6 +12,13 @@ use model::{Access, Phase, Row};
 
 // "each empty (65535) or a cell"
 pub const NONE: u32 = 65535;
+
+// One of two numbers by a test.
+pub fn choose(test: bool, x: u32, y: u32) -> u32
+    ensures { result ≡ pick test x y }
+{
+    if test { x } else { y }
+}
 
 // A hold above 3 is empty.
 pub fn hold_of(holds: [u32; 4], hold: u32) -> u32
