@@ -25,14 +25,14 @@ pub struct Run {
 
 impl Run {
     // The ones that lie in the word of its start.
-    fn low_mask(self) -> u64
+    pub fn low_mask(self) -> u64
         ensures { result ≡ low_mask (self.start % 64) self.cells }
     {
         ((1u64 << self.cells) - 1) << (self.start % 64)
     }
 
     // Those that run over into the next word.
-    fn high_mask(self) -> u64
+    pub fn high_mask(self) -> u64
         ensures { result ≡ high_mask (self.start % 64) self.cells }
     {
         (((1u64 << self.cells) - 1) >> 1) >> (63 - self.start % 64)
