@@ -1,7 +1,7 @@
 -- What the walk over the directory has seen decides R3: while no block meets another, the map built so far has at each cell the sum of
 -- the blocks that cover it; the map's words then decide the rest.
 use mathlib.Core.Path.{◌≡◌, refl, sym, ap, ◌∙◌}
-use mathlib.Core.Bool.{true, false}
+use mathlib.Core.Bool.{Bool, true, false}
 use mathlib.Core.List.{List}
 use mathlib.Core.Logic.{◌⊎◌, inl, inr, ⊎_elim}
 use Prim.Native.Nat.{ℕ, ◌+◌, ◌%◌, ◌<◌, ◌≤◌}
@@ -137,16 +137,31 @@ module _ (dir map : List ℕ) (v : Move) (arena seen : List ℕ) (i : ℕ) (hm :
       (λ r. map_ext built map hb hm (λ x hx. at x hx ∙ all_blocks x hx ∙ r x hx)) (record { holds = same.0; test = same.1 }))
       (says_r3 dir map v arena)
 
+-- whether the cells of a block are free, if there is one; the map with it laid
+abbrev pub block_free : List ℕ → Option ℕ → ℕ → Bool
+block_free seen None n = true
+block_free seen (Some c) n = free_cells seen c n
+
+abbrev pub block_laid : List ℕ → Option ℕ → ℕ → List ℕ
+block_laid seen None n = seen
+block_laid seen (Some c) n = put_run seen c n 1
+
 module _ (dir map : List ℕ) (v : Move) (arena seen : List ℕ) (i : ℕ) (hm : IsMap map) (end : i ≡ length dir) (s : Seen dir arena i seen) where
+  -- the move's other block, laid last: the words of the map built and of the map decide the rest
+  pub words_decide : (o : Option ℕ) → o ≡ other_start (stage_of v.stage) v → block_free seen o (cells_at arena v.from) ≡ true
+      → bytes_eq (block_laid seen o (cells_at arena v.from)) map ≡ R3 dir map v arena
+  words_decide None e f = map_decides dir map v arena seen i hm end s None e seen s.map (λ x hx. omega arith)
+  words_decide (Some c) e f =
+      map_decides dir map v arena seen i hm end s (Some c) e (put_run seen c (cells_at arena v.from) 1)
+      (run_map seen c (cells_at arena v.from) 1 s.map (omega arith)) (λ x hx. laid_at seen c (cells_at arena v.from) x s.map hx f)
+
   pub end_none : None ≡ other_start (stage_of v.stage) v → bytes_eq seen map ≡ R3 dir map v arena
-  end_none e = map_decides dir map v arena seen i hm end s None e seen s.map (λ x hx. omega arith)
+  end_none e = words_decide None e refl
 
   module _ (c : ℕ) (e : Some c ≡ other_start (stage_of v.stage) v) where
     pub end_same : free_cells seen c (cells_at arena v.from) ≡ true
         → bytes_eq (put_run seen c (cells_at arena v.from) 1) map ≡ R3 dir map v arena
-    end_same f =
-        map_decides dir map v arena seen i hm end s (Some c) e (put_run seen c (cells_at arena v.from) 1)
-        (run_map seen c (cells_at arena v.from) 1 s.map (omega arith)) (λ x hx. laid_at seen c (cells_at arena v.from) x s.map hx f)
+    end_same f = words_decide (Some c) e f
 
     pub end_stops : free_cells seen c (cells_at arena v.from) ≡ false → R3 dir map v arena ≡ false
     end_stops f =
