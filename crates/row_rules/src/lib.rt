@@ -24,11 +24,12 @@ const ROWS: u32 = 8;
 const TABLE_WORDS: usize = 96;
 
 // Control record and arena of which R1 holds: each present record is labelled with its meter.
+// The fields are public: whoever has R1 by proof builds the value, and R1 is not asked again.
 #[derive(Clone, Copy)]
 pub struct Records<'a> {
-    control: &'a Control,
-    arena: &'a [u32],
-    ghost right: { R1 control.now.dir arena.now ≡ true },
+    pub control: &'a Control,
+    pub arena: &'a [u32],
+    pub ghost right: { R1 control.now.dir arena.now ≡ true },
 }
 
 impl<'a> Records<'a> {
