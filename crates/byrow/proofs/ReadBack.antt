@@ -61,6 +61,9 @@ module _ {call : State → Outcome} (G : Tests call) (c : Control) (a : List ℕ
   refused_does : (t : List Row) → taken t ≡ None → Does (turned_down c) a t (call (state c a t))
   refused_does t e = rw (refused_so t e) (record { answer = refl; control = refl; arena = refl; table = refl })
 
+  pub rows_refused : DoesRows None (record { reply = turned_down c; rows = None }) a (λ t. call (state c a t))
+  rows_refused = record { does = refused_does; back = λ l e. cc; other = λ _. refl }
+
   pub look_refused : {rows : Option (List Row)} → rows ≡ None → LooksRows rows (turned_down c) (λ t. call (state c a t))
   look_refused p = record { looks = λ t e. rw (refused_so t (e ∙ p)) (record { answer = refl; control = refl }) }
 
@@ -72,18 +75,17 @@ module _ (c : Control) (a : List ℕ) (l : List Row) (eight : length l ≡ 8) (h
   meant_rows : meant c a (table_words l) ≡ state c a l
   meant_rows = ap (state c a) (rows_of_words l eight four)
 
-  read_back : {call : State → Outcome} → Call call → {r : Reply} {a' words : List ℕ}
-      → CallDoes (table_words l) r a' words (call (meant c a (table_words l))) → Does r a' (table_left l (Some (rows_read words))) (call (state c a l))
-  read_back {call} G d =
-      let s : State = state c a l in
-      let k : Keeps s (call s) = G.keeps s (record { eight = eight; four = four }) in
-      let d' = rw meant_rows at d in
-      record {
-        answer = d'.answer;
-        control = d'.control;
-        arena = d'.arena;
-        table = rw (eq-eqb (length l) 8 eight) (read_after l eight four (call s).answer (call s).next.table k.rows.eight k.rows.four k.same d'.table);
-      }
+  module _ {call : State → Outcome} (G : Call call) {r : Reply} {a' words : List ℕ} (d : CallDoes (table_words l) r a' words (call (meant c a (table_words l)))) where
+    rows_back : rows_read words ≡ (call (state c a l)).next.table
+    rows_back =
+        let s : State = state c a l in
+        let k : Keeps s (call s) = G.keeps s (record { eight = eight; four = four }) in
+        read_after l eight four (call s).answer (call s).next.table k.rows.eight k.rows.four k.same (rw meant_rows at d).table
+
+    read_back : Does r a' (table_left l (Some (rows_read words))) (call (state c a l))
+    read_back =
+        let d' = rw meant_rows at d in
+        record { answer = d'.answer; control = d'.control; arena = d'.arena; table = rw (eq-eqb (length l) 8 eight) rows_back }
 
 pub look_done : (call : State → Outcome) (c : Control) (a : List ℕ) {rows : Option (List Row)} (l : List Row) → rows ≡ Some l → All FourHolds l
     → {r : Reply} → LookDoes r (call (meant c a (table_words l))) → LooksRows rows r (λ t. call (state c a t))
@@ -103,11 +105,12 @@ module _ (c : Control) (a a' : List ℕ) (rows : Option (List Row)) (d : Done)
   rows_done {call} G kept does = by rows o
     where
       by : (rows : Option (List Row)) → OnWords g c rows f d f' → DoesRows rows d a' (λ t. call (state c a t))
-      by None w = record { does = λ t e. rw (w.0, kept w.1) (refused_does G.tests c a t e); other = λ _. ap (λ (d : Done). d.rows) w.0 }
+      by None w = rw (w.0, kept w.1) (rows_refused G.tests c a)
       by (Some l) w =
+          let called = does d.reply (table_words l) w.words w.called in
           record {
-            does = λ t e. rw ((these_taken t e).0, w.back)
-                (read_back c a l w.eight w.holds G (does d.reply (table_words l) w.words w.called));
+            does = λ t e. rw ((these_taken t e).0, w.back) (read_back c a l w.eight w.holds G called);
+            back = λ m e. let same : m ≡ l = cc in rw same (w.back ∙ ap Some (rows_back c a l w.eight w.holds G called));
             other = λ e. cc;
           }
 
@@ -115,7 +118,7 @@ module _ (c : Control) (a a' : List ℕ) (rows : Option (List Row)) (d : Done)
       → ((r : Reply) (t t' : List ℕ) → CalledAtMut g f t r f' t' → RunDoes t r a' t' l (run_call (meant c a t) ws slots))
       → RunsRows rows d a' l (λ t. run_call (state c a t) ws slots)
   run_done ws slots l kept does =
-      record { runs = λ t e. record { leaves = leaves.does t e; slots = by rows o t e }; other = leaves.other }
+      record { runs = λ t e. record { leaves = leaves.does t e; slots = by rows o t e }; back = leaves.back; other = leaves.other }
     where
       leaves : DoesRows rows d a' (λ t. ran_out (run_call (state c a t) ws slots))
       leaves =

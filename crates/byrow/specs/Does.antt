@@ -35,13 +35,15 @@ abbrev pub table_left : List Row → Option (List Row) → List Row
 table_left t None = t
 table_left t (Some rows) = put_back t rows
 
--- the same of the rows that were taken out of a table, whichever it was; where it had not eight, none come back
+-- the same of the rows that were taken out of a table, whichever it was: eight come back, on a refusal too; where it had not eight, none do
 pub record DoesRows (before : Option (List Row)) (d : Done) (a : List ℕ) (call : List Row → Outcome) : Type 0 where
   pub does : (t : List Row) → taken t ≡ before → Does d.reply a (table_left t d.rows) (call t)
+  pub back : (rows : List Row) → before ≡ Some rows → d.rows ≡ Some (call rows).next.table
   pub other : before ≡ None → d.rows ≡ before
 
 pub record RunsRows (before : Option (List Row)) (d : Done) (a l : List ℕ) (call : List Row → Ran) : Type 0 where
   pub runs : (t : List Row) → taken t ≡ before → Runs d.reply a (table_left t d.rows) l (call t)
+  pub back : (rows : List Row) → before ≡ Some rows → d.rows ≡ Some (call rows).next.table
   pub other : before ≡ None → d.rows ≡ before
 
 pub record LooksRows (before : Option (List Row)) (r : Reply) (call : List Row → Outcome) : Type 0 where

@@ -27,7 +27,7 @@ pub fn fresh(control: Control, arena: &mut [u32], table: &mut [Row]) -> Reply
     ensures { Does result arena.new table.new
         (fresh_call (state control arena.old table.old)) }
 {
-    let done = byrow::fresh_rows(control, arena, rows::take_rows(table));
+    let done = byrow::fresh_rows(control, arena, rows::find_rows(table));
     put_back(table, done)
 }
 
@@ -45,7 +45,7 @@ pub fn step(
     ensures { Does result arena.new table.new
         (step_call (state control arena.old table.old) (step who code a b v)) }
 {
-    let done = byrow::step_rows(control, arena, rows::take_rows(table), who, code, a, b, v);
+    let done = byrow::step_rows(control, arena, rows::find_rows(table), who, code, a, b, v);
     put_back(table, done)
 }
 
@@ -61,7 +61,7 @@ pub fn run(
     ensures { Runs result arena.new table.new answers.new
         (run_call (state control arena.old table.old) steps.now answers.old) }
 {
-    let done = byrow::run_rows(control, arena, rows::take_rows(table), steps, answers);
+    let done = byrow::run_rows(control, arena, rows::find_rows(table), steps, answers);
     put_back(table, done)
 }
 
@@ -69,12 +69,12 @@ pub fn run(
 pub fn fill(control: Control, arena: &[u32], table: &[Row]) -> Reply
     ensures { Looks result (fill_call (state control arena.now table.now)) }
 {
-    byrow::fill_rows(control, arena, rows::take_rows(table))
+    byrow::fill_rows(control, arena, rows::find_rows(table))
 }
 
 // "Audit's value, beside answer 30, is 0 or the number of the first broken rule."
 pub fn audit(control: Control, arena: &[u32], table: &[Row]) -> Reply
     ensures { Looks result (audit_call (state control arena.now table.now)) }
 {
-    byrow::audit_rows(control, arena, rows::take_rows(table))
+    byrow::audit_rows(control, arena, rows::find_rows(table))
 }

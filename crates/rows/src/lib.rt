@@ -3,15 +3,31 @@
 #![tactic(auto)]
 
 ghost use Rattle.std.specs.Prelude.{◌≡◌};
-ghost use Rattle.rows.specs.Taken.{taken, put_back};
+ghost use Rattle.rows.specs.Taken.{taken, eight, put_back};
 
-use model::Row;
+use model::{Phase, Row};
 
-// The rows, taken out: none of a table that has not eight.
-pub fn take_rows(table: &[Row]) -> Option<[Row; 8]>
+// What stands for each row of a table that has not eight: it is never looked at.
+const FRESH: Row = Row {
+    attached: false,
+    passed: true,
+    holds: [65535; 4],
+    swaps: 0,
+    phase: Phase::Resting,
+};
+
+// The rows, taken out, of a table that has eight.
+pub fn find_rows(table: &[Row]) -> Option<[Row; 8]>
     ensures { result ≡ taken table.now }
 {
     <[Row; 8]>::try_from(table).ok()
+}
+
+// The same of any table: fresh rows of one that has not eight.
+pub fn take_rows(table: &[Row]) -> [Row; 8]
+    ensures { result ≡ eight table.now }
+{
+    find_rows(table).unwrap_or([FRESH; 8])
 }
 
 // The rows, put back.
