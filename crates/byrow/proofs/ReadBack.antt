@@ -45,7 +45,7 @@ these_taken t {l} = by (eqb (length t) 8) refl
     by true h e = (cc, eqb-true (length t) 8 h)
     by false h e = cc
 
-wrong_length : (c : Control) (a : List ℕ) (t : List Row) → taken t ≡ None → wrong_size (state c a t) ≡ true
+pub wrong_length : (c : Control) (a : List ℕ) (t : List Row) → taken t ≡ None → wrong_size (state c a t) ≡ true
 unfolding wrong_size
 wrong_length c a t e = rw (none_taken t e) (go (eqb (length a) 8192))
   where
@@ -55,7 +55,7 @@ wrong_length c a t e = rw (none_taken t e) (go (eqb (length a) 8192))
 
 -- the calls on a table that has not eight rows
 module _ {call : State → Outcome} (G : Tests call) (c : Control) (a : List ℕ) where
-  refused_so : (t : List Row) → taken t ≡ None → call (state c a t) ≡ refused (state c a t) 1
+  pub refused_so : (t : List Row) → taken t ≡ None → call (state c a t) ≡ refused (state c a t) 1
   refused_so t e = G.by_one (state c a t) (wrong_length c a t e)
 
   refused_does : (t : List Row) → taken t ≡ None → Does (turned_down c) a t (call (state c a t))
@@ -99,10 +99,11 @@ look_done call c a l p holds {r} d =
 -- the calls that are made on the words of the rows, if there are any
 module _ (c : Control) (a a' : List ℕ) (rows : Option (List Row)) (d : Done)
     {F : Type 0} {g : Mut F (MutBor (List ℕ) × Unit {0}) (Reply × (MutBor (List ℕ) × Unit {0}))} {f f' : F} (o : OnWords g c rows f d f') where
+  -- of whatever is d again
   pub rows_done : {call : State → Outcome} → Call call → (f' ≡ f → a' ≡ a)
       → ((r : Reply) (t t' : List ℕ) → CalledAtMut g f t r f' t' → CallDoes t r a' t' (call (meant c a t)))
-      → DoesRows rows d a' (λ t. call (state c a t))
-  rows_done {call} G kept does = by rows o
+      → {given : Done} → given ≡ d → DoesRows rows given a' (λ t. call (state c a t))
+  rows_done {call} G kept does same = rw same (by rows o)
     where
       by : (rows : Option (List Row)) → OnWords g c rows f d f' → DoesRows rows d a' (λ t. call (state c a t))
       by None w = rw (w.0, kept w.1) (rows_refused G.tests c a)
@@ -110,7 +111,7 @@ module _ (c : Control) (a a' : List ℕ) (rows : Option (List Row)) (d : Done)
           let called = does d.reply (table_words l) w.words w.called in
           record {
             does = λ t e. rw ((these_taken t e).0, w.back) (read_back c a l w.eight w.holds G called);
-            back = λ m e. let same : m ≡ l = cc in rw same (w.back ∙ ap Some (rows_back c a l w.eight w.holds G called));
+            back = λ m e. let these : m ≡ l = cc in rw these (w.back ∙ ap Some (rows_back c a l w.eight w.holds G called));
             other = λ e. cc;
           }
 
@@ -123,7 +124,7 @@ module _ (c : Control) (a a' : List ℕ) (rows : Option (List Row)) (d : Done)
       leaves : DoesRows rows d a' (λ t. ran_out (run_call (state c a t) ws slots))
       leaves =
           rows_done (run_is ws slots) (λ e. (kept e).0)
-          (λ r t t' k. let h = does r t t' k in record { answer = h.answer; control = h.control; arena = h.arena; table = h.table })
+          (λ r t t' k. let h = does r t t' k in record { answer = h.answer; control = h.control; arena = h.arena; table = h.table }) refl
 
       by : (rows : Option (List Row)) → OnWords g c rows f d f' → (t : List Row) → taken t ≡ rows → l ≡ (run_call (state c a t) ws slots).slots
       by None w t e = (kept w.1).1 ∙ sym (ap (λ (r : Ran). r.slots) (run_wrong_size (state c a t) ws slots (wrong_length c a t e)))

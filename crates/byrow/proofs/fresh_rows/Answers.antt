@@ -5,4 +5,4 @@ use Rattle.byrow.proofs.ReadBack.{rows_done}
 use Rattle.byrow.proofs.fresh_rows.Goals as goal
 
 pub returns : goal.returns
-returns c = rows_done _ _ _ _ _ c.on_words.ensures fresh_is (λ e. search rules) (λ r t t' k. search rules)
+returns c = rows_done _ _ _ _ _ c.on_words.ensures fresh_is (λ e. search rules) (λ r t t' k. search rules) (search rules)
