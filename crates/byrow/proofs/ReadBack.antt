@@ -99,7 +99,7 @@ look_done call c a l p holds {r} d =
 -- the calls that are made on the words of the rows, if there are any
 module _ (c : Control) (a a' : List ℕ) (rows : Option (List Row)) (d : Done)
     {F : Type 0} {g : Mut F (MutBor (List ℕ) × Unit {0}) (Reply × (MutBor (List ℕ) × Unit {0}))} {f f' : F} (o : OnWords g c rows f d f') where
-  -- of whatever is d again
+  -- `given` is what the caller of f gives: d, whatever way it went
   pub rows_done : {call : State → Outcome} → Call call → (f' ≡ f → a' ≡ a)
       → ((r : Reply) (t t' : List ℕ) → CalledAtMut g f t r f' t' → CallDoes t r a' t' (call (meant c a t)))
       → {given : Done} → given ≡ d → DoesRows rows given a' (λ t. call (state c a t))
