@@ -1,6 +1,6 @@
 -- What ADMIT, RETIRE and BEGIN leave: the control record, the word that changes, whether marks are cleared, the answer.
 -- The rows, and but for ADMIT the arena, are left to the caller; proofs/Acts joins these to the model's steps.
-use Rattle.std.specs.Prelude.{Bool, true, not, List, [], ◌∷◌, ℕ, Result, Ok, Err}
+use Rattle.std.specs.Prelude.{Bool, true, not, List, [], ◌∷◌, ◌++◌, ℕ, Result, Ok, Err}
 use Rattle.model.specs.declared.Control.{Control}
 use Rattle.model.specs.declared.Answer.TheVariants.{Refused, Admitted, Begun, Done}
 use Rattle.model.specs.Arena.{cells, none, start, place, flagged, cells_at, new_record, laid, lowest_run}
@@ -25,10 +25,9 @@ settled c (Err reason) = refused_kept c (reason_number reason)
 abbrev pub record_refusals : List ℕ → ℕ → ℕ → List Refusal
 record_refusals dir stage meter = 5 if bad_meter meter ∷ 8 if in_hand (stage_of stage) ∷ 10 if is_none (entry dir meter) ∷ []
 
--- and 11, which RETIRE has besides; whether some row holds the record is told
-abbrev pub retire_lines : List ℕ → ℕ → Bool → ℕ → List Refusal
-retire_lines dir stage held meter =
-    5 if bad_meter meter ∷ 8 if in_hand (stage_of stage) ∷ 10 if is_none (entry dir meter) ∷ 11 if held ∷ []
+-- and 11, RETIRE's own; whether some row holds the record is told
+abbrev pub held_refusals : List ℕ → ℕ → Bool → ℕ → List Refusal
+held_refusals dir stage held meter = record_refusals dir stage meter ++ (11 if held ∷ [])
 
 -- RETIRE of the record at a cell
 abbrev pub retired_kept : Control → List ℕ → ℕ → ℕ → Kept Control
@@ -36,8 +35,7 @@ retired_kept c arena meter cell = stays (with_entry (freed c cell (cells_at aren
 
 unfoldable pub retire_step : Control → List ℕ → Bool → ℕ → Kept Control
 retire_step c arena held meter =
-    refuse (record_refusals c.dir c.mv.stage meter) (refused_kept c)
-    (refuse (11 if held ∷ []) (refused_kept c) (retired_kept c arena meter (entry c.dir meter)))
+    refuse (held_refusals c.dir c.mv.stage held meter) (refused_kept c) (retired_kept c arena meter (entry c.dir meter))
 
 -- BEGIN of the record at `from`
 abbrev pub begun_kept : Control → List ℕ → ℕ → ℕ → ℕ → Kept Control

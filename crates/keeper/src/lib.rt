@@ -8,7 +8,7 @@ ghost use Rattle.model.specs.KeeperSteps.{first_move};
 ghost use Rattle.model.specs.Choice.{given};
 ghost use Rattle.answers.specs.Answers.{refused_by};
 ghost use Rattle.model.specs.Refusals.{admit_refusals, begin_refusals};
-ghost use Rattle.keeper.specs.Kept.{settled, record_refusals, retire_lines, new_refusals, retire_step, begin_step, admit_step, admit_arena};
+ghost use Rattle.keeper.specs.Kept.{settled, record_refusals, held_refusals, new_refusals, retire_step, begin_step, admit_step, admit_arena};
 
 use answers::refuse_if;
 use cells::{Cell, Run};
@@ -42,7 +42,7 @@ pub fn retire(
     meter: u32,
 ) -> Result<Kept<Control>, Reason>
     ensures kept { settled control result ≡ retire_step control arena.now held meter }
-    ensures refused { refused_by result ≡ given (retire_lines control.dir control.mv.stage held meter) }
+    ensures refused { refused_by result ≡ given (held_refusals control.dir control.mv.stage held meter) }
 {
     let cell = record_of(&control, meter)?;
     refuse_if(held, Reason::Held)?;
